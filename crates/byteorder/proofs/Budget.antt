@@ -1,13 +1,17 @@
 -- What a run of stores with a budget does: all that the budget allows where they have room, and nothing where they have none.
 use mathlib.Core.Path.{_≡_, refl, sym, _∙_, ap}
+use mathlib.Core.Bool.{Bool, true, false, cond}
 use mathlib.Core.List.{List, [], _∷_, _++_, append-assoc}
 use Prim.Native.Nat.{ℕ, zero, suc, _+_, _-_, _<_, _≤_, min}
 use native.Mathlib.Nat.{zero-min, min-zero, suc-min-suc}
 use native.Mathlib.Omega.{arith}
 use lib.ListN.{length, take, drop, length-take}
+use lib.Dec.{eqb}
 use borrow.Rule.Slice.PartMut.{putMid, postOf, post-is}
-use borrow.Author.Tests.{le-leb, lt-leb}
-use Rattle.byteorder.specs.Splice.{splice, storeCount, storeFirst}
+use borrow.Author.Tests.{le-leb, lt-leb, eq-eqb, ne-eqb}
+use Rattle.byteorder.specs.Big.{bigBytes}
+use Rattle.byteorder.specs.Splice.{splice, hasRoom, storeCount, storeFirst}
+use Rattle.byteorder.proofs.Laws.{length-bytes}
 
 pub take-min : (n : ℕ) (l : List ℕ) → take (min n (length l)) l ≡ take n l
 take-min zero l = rw zero-min
@@ -29,3 +33,15 @@ module _ (n at : ℕ) (bytes buf : List ℕ) where
       let rest : postOf at (at + k - at) buf ≡ drop (at + length (take n bytes)) buf = post-is at (at + k) buf (omega arith) ∙ rw many in
       let all = all-done (rw (← is) h) in
       (is ∙ all .0, rw (stored, rest) (sym (append-assoc (take at buf) (take n bytes) _)) ∙ all .1)
+
+-- a number of w bytes is stored whole or not at all, so the count tells whether it had room
+told : (w : ℕ) (b : Bool) → 0 < w → eqb (cond b w 0) w ≡ b
+told w true h = eq-eqb w w refl
+told w false h = ne-eqb 0 w (λ e. let no : ⊥ = omega arith in no)
+
+pub put-done : (w n at : ℕ) (buf : List ℕ) {bytes last : List ℕ} {count : ℕ} → 0 < w → bytes ≡ bigBytes w n
+    → (count ≡ storeCount w (length bytes) at (length buf)) × (last ≡ storeFirst w bytes at buf)
+    → (eqb count w ≡ hasRoom at w (length buf)) × (last ≡ storeFirst w (bigBytes w n) at buf)
+put-done w n at buf {bytes} {last} {count} h is done =
+    let many : min w (length bytes) ≡ w = rw (is, length-bytes) (omega arith) in
+    (rw (done .0, many) (told w (hasRoom at w (length buf)) h), rw (← is) (done .1))
