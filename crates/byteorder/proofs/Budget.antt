@@ -5,7 +5,8 @@ use mathlib.Core.List.{List, [], _∷_, _++_, append-assoc}
 use Prim.Native.Nat.{ℕ, zero, suc, _+_, _-_, _<_, _≤_, min}
 use native.Mathlib.Nat.{zero-min, min-zero, suc-min-suc}
 use native.Mathlib.Omega.{arith}
-use lib.ListN.{length, take, drop, length-take}
+use lib.ListN.{length, take, drop, length-take, length-append}
+use lib.Seq.{take-all, take-at, drop-at}
 use lib.Dec.{eqb}
 use borrow.Rule.Slice.PartMut.{putMid, postOf, post-is}
 use borrow.Author.Tests.{le-leb, lt-leb, eq-eqb, ne-eqb}
@@ -45,3 +46,17 @@ pub put-done : (w n at : ℕ) (buf : List ℕ) {bytes last : List ℕ} {count : 
 put-done w n at buf {bytes} {last} {count} h is done =
     let many : min w (length bytes) ≡ w = rw (is, length-bytes) (omega arith) in
     (rw (done .0, many) (told w (hasRoom at w (length buf)) h), rw (← is) (done .1))
+
+-- a number put right behind a front part takes the place of what stood there
+pub put-behind : (w n k : ℕ) (front old rest : List ℕ) {before after : List ℕ} → length front ≡ k → length old ≡ w → before ≡ front ++ old ++ rest
+    → after ≡ storeFirst w (bigBytes w n) k before → after ≡ front ++ bigBytes w n ++ rest
+put-behind w n k front old rest {before} {after} lf lo is put =
+    let bytes = bigBytes w n in
+    let whole = front ++ old ++ rest in
+    let lb : length bytes ≡ w = length-bytes w n in
+    let lw : length whole ≡ k + w + length rest = simp length-append (omega arith) in
+    let stored : after ≡ splice whole k (take w bytes) = put ∙ rw is (sym (all-done w k bytes whole (omega arith) .1)) in
+    let all : take w bytes ≡ bytes = take-all w bytes (omega arith) in
+    let head : take k whole ≡ front = rw append-assoc (take-at front (old ++ rest) k lf) in
+    let tail : drop (k + length bytes) whole ≡ rest = drop-at (front ++ old) rest (k + length bytes) (rw length-append (omega arith)) in
+    stored ∙ rw (all, head, tail)
