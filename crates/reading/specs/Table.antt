@@ -52,34 +52,27 @@ pub data Place (s : List ℕ) (p : ℕ) : Rules → Step → Type 0 where
   -- on: a `desc` takes 32 bytes, any other chunk what its size says
   over-desc : Header s p 'desc' → descSize ≤ behind s p → badRateAt s (bodyAt p) ≡ false → Place s p Plain (Format (formatAt s (bodyAt p)) (bodyAt p + descSize))
   over-other : {rules : Rules} → Other s p → sizeAt s p < negative → sizeAt s p ≤ behind s p → Place s p rules (Skip (bodyAt p + sizeAt s p))
-
   -- 0, Done: the place of the size field, and the data start
   plain-data : Header s p 'data' → editSize ≤ behind s p → Place s p Plain (Data (p + typeSize) (bodyAt p + editSize))
   open-data : Header s p 'data' → sizeAt s p ≡ openSize → editSize ≤ behind s p → Place s p Strict (Data (p + typeSize) (bodyAt p + editSize))
   closed-data : Header s p 'data' → editSize ≤ sizeAt s p → sizeAt s p < negative → sizeAt s p ≡ behind s p → Place s p Strict (Data (p + typeSize) (bodyAt p + editSize))
-
   -- 1, CutShort: in a chunk header, in a `desc`, in the edit count; strict: in a chunk that is skipped
   cut-header : {rules : Rules} → typeSize ≤ left s p → left s p < chunkHeaderSize → Place s p rules (Refused cutShort 0)
   cut-desc : Header s p 'desc' → behind s p < descSize → Place s p Plain (Refused cutShort 1)
   cut-plain-edit : Header s p 'data' → behind s p < editSize → Place s p Plain (Refused cutShort 1)
   cut-strict-edit : Header s p 'data' → Possible (sizeAt s p) → behind s p < editSize → Place s p Strict (Refused cutShort 1)
   cut-other : Other s p → sizeAt s p < negative → behind s p < sizeAt s p → Place s p Strict (Refused cutShort 1)
-
   -- 3, NoData: no room for a type; plain: a skip past the end
   no-type : {rules : Rules} → left s p < typeSize → Place s p rules (Refused noData 0)
   skip-past-end : Other s p → sizeAt s p < negative → behind s p < sizeAt s p → Place s p Plain (Refused noData 1)
-
   -- 4, BadSize: a skipped chunk of 2^63 or more; strict: data of 0..3, or negative and not -1
   negative-other : {rules : Rules} → Other s p → negative ≤ sizeAt s p → Place s p rules (Refused badSize 1)
   small-data : Header s p 'data' → sizeAt s p < editSize → Place s p Strict (Refused badSize 1)
   negative-data : Header s p 'data' → negative ≤ sizeAt s p → ¬ (sizeAt s p ≡ openSize) → Place s p Strict (Refused badSize 1)
-
   -- 5, BadRate: a whole `desc` body whose rate is not a number (the strict reading's one `desc` stands before its walk)
   bad-rate : Header s p 'desc' → descSize ≤ behind s p → badRateAt s (bodyAt p) ≡ true → Place s p Plain (Refused badRate 1)
-
   -- 7, BadDesc: a second `desc`
   second-desc : Header s p 'desc' → Place s p Strict (Refused badDesc 1)
-
   -- 8, DataPastEnd, and 9, DataEndsEarly
   data-past-end : Header s p 'data' → sizeAt s p < negative → editSize ≤ behind s p → behind s p < sizeAt s p → Place s p Strict (Refused dataPastEnd 1)
   data-ends-early : Header s p 'data' → sizeAt s p < negative → editSize ≤ sizeAt s p → sizeAt s p < behind s p → Place s p Strict (Refused dataEndsEarly 1)
