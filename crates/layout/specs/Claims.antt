@@ -1,0 +1,42 @@
+-- What is to be proved of the table. Each claim is a type; its proof stands in proofs/.
+use Prim.Native.Nat.{ℕ, _<_, _≤_}
+use mathlib.Core.Path.{_≡_}
+use mathlib.Core.Bool.{Bool, true, false, cond}
+use mathlib.Core.List.{List, [], _∷_}
+use mathlib.Core.Option.{some}
+use lib.Dec.{eqb}
+use lib.ListN.{length, getD}
+use Rattle.layout.specs.Tags as tag
+use Rattle.layout.specs.Known.{knownTag, allKnown}
+use Rattle.layout.specs.Table.{StandardLayout, standardLayouts, beyond, rowPlaces}
+use Rattle.layout.specs.Search.{layoutFor}
+use Rattle.layout.specs.Order.{orderFor}
+use Rattle.layout.specs.declared.ChannelLayout.{ChannelLayout}
+use Rattle.layout.specs.declared.ChannelLayout.the-variants.{NoLayout, Tagged, Described}
+
+-- a row's tag and labels are among the 50 and the 47; it has as many labels as its tag tells, of which the code's row has room for
+-- all; and its tag leads back to its own order
+pub record RowRules (r : StandardLayout) : Type 0 where
+  pub tag-known : knownTag (r .tag) ≡ true
+  pub labels-known : allKnown (r .order) ≡ true
+  pub counted : length (r .order) ≡ tag.channels (r .tag)
+  pub fits : length (r .order) ≤ rowPlaces
+  pub led-back : orderFor (r .tag) ≡ some (r .order)
+
+abbrev pub EachRow : Type 0
+EachRow = (i : ℕ) → i < length standardLayouts → RowRules (getD standardLayouts i beyond)
+
+-- a layout is told by this tag
+abbrev pub hasTag : ChannelLayout → ℕ → Bool
+hasTag NoLayout tag = false
+hasTag (Tagged t) tag = eqb t tag
+hasTag Described tag = false
+
+-- of some rows the tags that their own labels do not get, because an earlier row has the same
+abbrev pub shadowed : List StandardLayout → List ℕ
+shadowed [] = []
+shadowed (r ∷ rs) = cond (hasTag (layoutFor (r .order)) (r .tag)) (shadowed rs) (r .tag ∷ shadowed rs)
+
+-- behind Pentagonal, Quadraphonic and Hexagonal
+abbrev pub ThreeShadowed : Type 0
+ThreeShadowed = shadowed standardLayouts ≡ tag.«MPEG_5_0_B» ∷ tag.«ITU_2_2» ∷ tag.«DVD_20» ∷ []

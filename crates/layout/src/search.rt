@@ -1,0 +1,51 @@
+// The layout for labels: the first row of the table with exactly these labels.
+use crate::ChannelLayout;
+use crate::Row;
+use crate::table::ROWS;
+use crate::table::STANDARD_LAYOUTS;
+ghost use mathlib.Core.Path.{_≡_};
+ghost use Prim.Native.Nat.{_<_, _≤_};
+ghost use lib.ListN.{getD};
+ghost use Rattle.byteorder.specs.Same.{exactly};
+ghost use Rattle.layout.specs.Table.{standardLayouts, beyond, row, rowOrder};
+ghost use Rattle.layout.specs.Search.{layoutFor};
+
+// Only the first `count` labels of a row are its order, so the count is compared too.
+fn matches(row: Row, labels: &[u32]) -> bool
+    requires { ⌜ row .count ≤ 8 ⌝ }
+    ensures { λ r. ⌜ r ≡ exactly (rowOrder row) (now (labels .entry)) ⌝ }
+{
+    let n = row.count;
+    if labels.len() != n {
+        return false;
+    }
+    let mut i: usize = 0;
+    while i < n {
+        if row.labels[i] != labels[i] {
+            return false;
+        }
+        i += 1;
+    }
+    true
+}
+
+fn row_at(i: usize) -> Row
+    requires { ⌜ i < 43 ⌝ }
+    ensures { λ r. ⌜ r ≡ row (getD standardLayouts i beyond) ⌝ }
+{
+    STANDARD_LAYOUTS[i]
+}
+
+pub fn layout_for(labels: &[u32]) -> ChannelLayout
+    ensures { λ r. ⌜ r ≡ layoutFor (now (labels .entry)) ⌝ }
+{
+    let mut i: usize = 0;
+    while i < ROWS {
+        let row = row_at(i);
+        if matches(row, labels) {
+            return ChannelLayout::Tagged(row.tag);
+        }
+        i += 1;
+    }
+    ChannelLayout::Described
+}
