@@ -1,0 +1,91 @@
+//! Writes a fixed sample of the Rust text's answers to standard output, as compare/README.md lays it out.
+//! Only inputs inside 01's domain of equality are in it, so every answer is the text's own.
+
+use std::io::Write;
+
+use harness::answer::*;
+use harness::encode;
+use harness::files;
+use harness::known;
+use harness::names;
+use harness::oracle::Rust;
+use harness::random::Random;
+use harness::script::Script;
+use harness::scripts;
+
+const SEED: u64 = 1;
+const RANDOM_FILES: usize = 120;
+const RANDOM_SCRIPTS: usize = 130;
+const RANDOM_SAMPLES: usize = 20;
+
+struct Sample(Vec<Vec<u8>>);
+
+impl Sample {
+    fn file(&mut self, file: Vec<u8>) {
+        let reading = Rust.parse(&file);
+        if !outside(reading.number) {
+            self.0.push(encode::reading(&file, &reading));
+        }
+    }
+
+    fn labels(&mut self, labels: Vec<u32>) {
+        self.0.push(encode::labels(&labels, &Rust.layout(&labels)));
+    }
+
+    fn samples(&mut self, samples: Vec<i32>) {
+        for little in [false, true] {
+            self.0.push(encode::samples(&samples, little, &Rust.pack(&samples, little)));
+        }
+    }
+
+    fn script(&mut self, script: Script) {
+        let steps = Rust.run(&script);
+        let inside = steps.iter().all(|step| !outside(step.number));
+        if inside && !script.is_empty() {
+            self.0.push(encode::script(&script, &steps));
+        }
+    }
+}
+
+fn main() {
+    known::check_all(&Rust);
+    let mut sample = Sample(Vec::new());
+    let rows = names::rows();
+    let random = &mut Random(SEED);
+
+    for head in files::HEADS {
+        sample.file(head.to_vec());
+    }
+    files::joined(files::HEADS[0], 2, &mut |file| sample.file(file));
+    for _ in 0..RANDOM_FILES {
+        let good = files::good(random);
+        sample.file(files::damaged(random, &good));
+        sample.file(good);
+    }
+
+    sample.labels(Vec::new());
+    for row in &rows {
+        sample.labels(row.clone());
+        sample.labels(row.iter().rev().copied().collect());
+        sample.labels(row[1..].to_vec());
+    }
+    for label in names::LABELS {
+        sample.labels(vec![label as u32]);
+    }
+
+    for _ in 0..RANDOM_SAMPLES {
+        sample.samples(scripts::samples(random));
+    }
+
+    sample.script(known::example_script());
+    scripts::all(2, &mut |script| sample.script(script));
+    for _ in 0..RANDOM_SCRIPTS {
+        sample.script(scripts::random(random, &rows));
+    }
+
+    let count = sample.0.len() as u32;
+    let mut out = std::io::stdout().lock();
+    out.write_all(&count.to_be_bytes()).expect("standard output takes the sample");
+    out.write_all(&sample.0.concat()).expect("standard output takes the sample");
+    eprintln!("{count} cases");
+}

@@ -1,0 +1,111 @@
+//! Scripts of calls on a writer: what both sides are asked to do, and which calls 01 puts outside the comparison.
+
+use crate::answer::*;
+use crate::names;
+
+#[derive(Clone, Debug, PartialEq)]
+pub enum Call {
+    Format {
+        rate_bits: u64,
+        channels: u32,
+        bits: u32,
+        float: bool,
+        little: bool,
+    },
+    Tag(u32),
+    Labels {
+        labels: Vec<u32>,
+        channels: u32,
+    },
+    Configure {
+        rate: u32,
+        channels: u32,
+        bits: u32,
+        labels: Vec<u32>,
+    },
+    Header,
+    Data(Vec<u8>),
+    Samples(Vec<i32>),
+    Finish,
+    /// Leave the writer as it stands and resume from its file.
+    Resume,
+    /// The same from these bytes.
+    ResumeFrom(Vec<u8>),
+    /// Only the first stores of a header, data, samples or finish call: then the writer is gone and the file is left.
+    Cut(Box<Call>, u64),
+}
+
+pub type Script = Vec<Call>;
+
+/// What decides whether a call lies in 01's domain, beside its arguments.
+#[derive(Clone, Copy, Default)]
+pub struct Past {
+    /// by a header call or by a resume
+    pub header: bool,
+    pub finished: bool,
+    pub no_writer: bool,
+}
+
+impl Past {
+    /// The number that 01 gives a call outside the domain of equality; none inside.
+    /// What a resume finds in the file is not judged here.
+    pub fn outside(&self, call: &Call) -> Option<u32> {
+        if self.no_writer && !matches!(call, Call::Resume | Call::ResumeFrom(_)) {
+            return Some(NO_WRITER);
+        }
+        match call {
+            Call::Format { rate_bits, channels, bits, .. } => {
+                if f64::from_bits(*rate_bits).is_nan() {
+                    return Some(BAD_RATE);
+                }
+                packet_outside(*channels, *bits)
+            }
+            Call::Tag(tag) => names::tag(*tag).is_none().then_some(BAD_TAG),
+            Call::Labels { labels, channels } => labels_outside(labels, *channels),
+            Call::Configure { channels, bits, labels, .. } => {
+                packet_outside(*channels, *bits).or_else(|| labels_outside(labels, *channels))
+            }
+            Call::Header => (self.header && !self.finished).then_some(HEADER_ALREADY),
+            Call::Cut(call, _) => self.outside(call),
+            _ => None,
+        }
+    }
+
+    /// How the past grows by a call that was not refused.
+    pub fn after(&mut self, call: &Call) {
+        match call {
+            Call::Header => self.header = true,
+            Call::Finish => self.finished = true,
+            Call::Resume | Call::ResumeFrom(_) => *self = Past { header: true, ..Past::default() },
+            Call::Cut(..) => *self = Past { no_writer: true, ..Past::default() },
+            _ => {}
+        }
+    }
+}
+
+fn packet_outside(channels: u32, bits: u32) -> Option<u32> {
+    let bytes = u64::from(bits / 8) * u64::from(channels);
+    (bytes > u64::from(u32::MAX)).then_some(PACKET_TOO_BIG)
+}
+
+fn labels_outside(labels: &[u32], channels: u32) -> Option<u32> {
+    if labels.len() > 64 && labels.len() == channels as usize {
+        return Some(TOO_MANY_LABELS);
+    }
+    let unknown = labels.iter().any(|&number| names::label(number).is_none());
+    unknown.then_some(BAD_LABEL)
+}
+
+/// An upper bound for the file that a script can leave.
+pub fn room(script: &[Call]) -> usize {
+    script
+        .iter()
+        .map(|call| match call {
+            Call::Header => 92 + 20 * 64,
+            Call::Data(bytes) | Call::ResumeFrom(bytes) => bytes.len(),
+            Call::Samples(samples) => samples.len() * 3,
+            Call::Cut(call, _) => room(std::slice::from_ref(call)),
+            _ => 0,
+        })
+        .sum()
+}
