@@ -12,31 +12,31 @@ pub const SCRIPT: u8 = b'W';
 pub struct Bytes(pub Vec<u8>);
 
 impl Bytes {
-    fn one(&mut self, number: impl Into<u8>) -> &mut Self {
+    pub fn one(&mut self, number: impl Into<u8>) -> &mut Self {
         self.0.push(number.into());
         self
     }
 
-    fn four(&mut self, number: u64) -> &mut Self {
+    pub fn four(&mut self, number: u64) -> &mut Self {
         let number = u32::try_from(number).expect("the sample keeps to short numbers");
         self.0.extend(number.to_be_bytes());
         self
     }
 
-    fn eight(&mut self, number: u64) -> &mut Self {
+    pub fn eight(&mut self, number: u64) -> &mut Self {
         self.0.extend(number.to_be_bytes());
         self
     }
 
     /// A length and so many bytes.
-    fn bytes(&mut self, bytes: &[u8]) -> &mut Self {
+    pub fn bytes(&mut self, bytes: &[u8]) -> &mut Self {
         self.four(bytes.len() as u64);
         self.0.extend(bytes);
         self
     }
 
     /// A count and so many numbers.
-    fn numbers(&mut self, numbers: impl ExactSizeIterator<Item = u32>) -> &mut Self {
+    pub fn numbers(&mut self, numbers: impl ExactSizeIterator<Item = u32>) -> &mut Self {
         self.four(numbers.len() as u64);
         for number in numbers {
             self.four(number.into());
@@ -80,7 +80,7 @@ pub fn samples(samples: &[i32], little: bool, packed: &[u8]) -> Vec<u8> {
     case(SAMPLES, body)
 }
 
-fn call(bytes: &mut Bytes, call: &Call) {
+pub fn call(bytes: &mut Bytes, call: &Call) {
     match call {
         Call::Format { rate_bits, channels, bits, float, little } => {
             bytes.one(1).eight(*rate_bits).four((*channels).into()).four((*bits).into()).one(*float).one(*little)

@@ -7,6 +7,7 @@ pub mod files;
 pub mod known;
 pub mod names;
 pub mod oracle;
+pub mod ours;
 pub mod random;
 pub mod script;
 pub mod scripts;

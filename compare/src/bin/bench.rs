@@ -1,0 +1,236 @@
+//! How long our code takes beside the Rust text and beside plain Rust: medians of one run, and their ratios.
+//!
+//! Every buffer is written once before anything is timed and is not cleared between runs. The sides take turns, and
+//! each goes through a buffer of its own of the same length, so that none finds its memory warmer than another.
+
+#[path = "../ours.rs"]
+mod ours;
+
+use std::hint::black_box;
+use std::io::Cursor;
+use std::mem::ManuallyDrop;
+use std::time::Instant;
+
+use harness::answer::Side;
+use harness::files::{HEADS, chunk, format_body};
+use harness::known;
+use harness::oracle::Rust;
+use oracle::caf::{CAFWriter, ChannelLabel, Endianness, PCMDataType, parse_caf_file};
+use ours::Writer;
+
+const RUNS: usize = 11;
+const REGION: usize = 16 << 20;
+const SAMPLES: usize = 4096;
+const HEADER: usize = 68;
+
+/// One side of a race: its name and one run of the work.
+type Runner<'a> = (&'a str, Box<dyn FnMut() + 'a>);
+
+/// Runs the sides in turns after a run to warm them up, and prints each median per unit of work, and the first side's
+/// ratio to each other.
+fn race(what: &str, units: usize, sides: Vec<Runner>) {
+    let mut sides: Vec<_> = sides.into_iter().map(|(name, run)| (name, run, Vec::new())).collect();
+    for round in 0..=RUNS {
+        for (_, run, times) in &mut sides {
+            let start = Instant::now();
+            run();
+            if round > 0 {
+                times.push(start.elapsed().as_secs_f64() * 1e9 / units as f64);
+            }
+        }
+    }
+    let medians: Vec<_> = sides
+        .iter_mut()
+        .map(|(name, _, times)| {
+            times.sort_by(f64::total_cmp);
+            (*name, times[RUNS / 2])
+        })
+        .collect();
+    let ours = medians[0].1;
+    print!("{what}: ours {ours:.1} ns");
+    for (name, median) in &medians[1..] {
+        print!("; {name} {median:.1} ns, ratio {:.2}", ours / median);
+    }
+    println!();
+}
+
+fn readings(what: &str, file: &[u8]) {
+    const TIMES: usize = 20_000;
+    let rust = || {
+        for _ in 0..TIMES {
+            let _ = black_box(parse_caf_file(Cursor::new(black_box(file))));
+        }
+    };
+    let plain = || {
+        for _ in 0..TIMES {
+            black_box(ours::plain(black_box(file)));
+        }
+    };
+    let strict = || {
+        for _ in 0..TIMES {
+            black_box(ours::strict(black_box(file)));
+        }
+    };
+    race(&format!("plain reading, {what}"), TIMES, vec![("ours", Box::new(plain)), ("Rust", Box::new(rust))]);
+    race(&format!("strict reading, {what}"), TIMES, vec![("ours", Box::new(strict)), ("Rust", Box::new(rust))]);
+}
+
+fn many_chunks(count: usize) -> Vec<u8> {
+    let format = chunk(b"desc", 32, &format_body(48000f64.to_bits(), [0; 6]));
+    let mut file = [HEADS[0], &format].concat();
+    for _ in 0..count {
+        file.extend(chunk(b"free", 4, &[0; 4]));
+    }
+    file.extend(chunk(b"data", -1, &[0; 4]));
+    file
+}
+
+fn region() -> Vec<u8> {
+    vec![0xa5; HEADER + REGION]
+}
+
+/// A writer of the text that has just written its header; it is not dropped, since that would finish it.
+fn rust_writer(buffer: &mut [u8], little: bool) -> ManuallyDrop<CAFWriter<Cursor<&mut [u8]>>> {
+    let mut writer = ManuallyDrop::new(CAFWriter::new(Cursor::new(buffer)));
+    let endianness = if little { Endianness::LittleEndian } else { Endianness::BigEndian };
+    writer.set_audio_format_with_options(48000.0, 2, 24, PCMDataType::SignedInteger, endianness).expect("a format");
+    writer.write_header().expect("a header");
+    writer
+}
+
+fn our_writer(buffer: &mut [u8], little: bool) -> Writer {
+    let mut writer = Writer::new();
+    assert_eq!(writer.set_format(48000.0, 2, 24, false, little), 0);
+    assert_eq!(writer.header(buffer), 0);
+    writer
+}
+
+/// What one writes in Rust for speed alone.
+fn plain_pack(samples: &[i32], little: bool, out: &mut [u8]) {
+    for (place, sample) in out.chunks_exact_mut(3).zip(samples) {
+        if little {
+            place.copy_from_slice(&sample.to_le_bytes()[..3]);
+        } else {
+            place.copy_from_slice(&sample.to_be_bytes()[1..]);
+        }
+    }
+}
+
+fn packing(little: bool) {
+    let samples: Vec<i32> = (0..SAMPLES as i32).map(|i| i.wrapping_mul(0x9e37_79b9u32 as i32)).collect();
+    let [mut a, mut b, mut c, mut d] = [(); 4].map(|_| region());
+    let calls = REGION / (3 * SAMPLES);
+    let order = if little { "little" } else { "big" };
+    let ours = || {
+        for place in a[HEADER..].chunks_exact_mut(3 * SAMPLES) {
+            assert_eq!(ours::pack(black_box(&samples), little, place), 0);
+        }
+    };
+    let plain = || {
+        for place in b[HEADER..].chunks_exact_mut(3 * SAMPLES) {
+            plain_pack(black_box(&samples), little, place);
+            black_box(place);
+        }
+    };
+    let rust = || {
+        let mut writer = rust_writer(&mut c, little);
+        for _ in 0..calls {
+            writer.write_pcm_24bit_as_packed(black_box(&samples)).expect("room");
+        }
+    };
+    let into_file = || {
+        let mut writer = our_writer(&mut d, little);
+        for _ in 0..calls {
+            assert_eq!(writer.samples(&mut d, black_box(&samples)), 0);
+        }
+    };
+    race(
+        &format!("packing {SAMPLES} samples, {order}-endian"),
+        calls,
+        vec![("ours", Box::new(ours)), ("Rust", Box::new(rust)), ("plain Rust", Box::new(plain))],
+    );
+    let rust = || {
+        let mut writer = rust_writer(&mut c, little);
+        for _ in 0..calls {
+            writer.write_pcm_24bit_as_packed(black_box(&samples)).expect("room");
+        }
+    };
+    race(
+        &format!("{SAMPLES} samples into the file, {order}-endian"),
+        calls,
+        vec![("ours", Box::new(into_file)), ("Rust", Box::new(rust))],
+    );
+}
+
+fn data(size: usize) {
+    let bytes: Vec<u8> = (0..size).map(|i| i as u8).collect();
+    let [mut a, mut b, mut c] = [(); 3].map(|_| region());
+    let calls = REGION / size;
+    let ours = || {
+        let mut writer = our_writer(&mut a, false);
+        for _ in 0..calls {
+            assert_eq!(writer.data(&mut a, black_box(&bytes)), 0);
+        }
+    };
+    let rust = || {
+        let mut writer = rust_writer(&mut b, false);
+        for _ in 0..calls {
+            writer.write_data(black_box(&bytes)).expect("room");
+        }
+    };
+    let copy = || {
+        for place in c[HEADER..].chunks_exact_mut(size) {
+            place.copy_from_slice(black_box(&bytes));
+            black_box(place);
+        }
+    };
+    race(
+        &format!("data calls of {} KiB", size >> 10),
+        calls,
+        vec![("ours", Box::new(ours)), ("Rust", Box::new(rust)), ("memcpy", Box::new(copy))],
+    );
+}
+
+/// From a fresh writer to a closed file of one frame.
+fn clip() {
+    const TIMES: usize = 5_000;
+    let [mut a, mut b] = [(); 2].map(|_| vec![0xa5u8; 98]);
+    let ours = || {
+        for _ in 0..TIMES {
+            let mut writer = Writer::new();
+            assert_eq!(writer.configure(48000.0, 2, 24, &[1, 2]), 0);
+            assert_eq!(writer.header(&mut a), 0);
+            assert_eq!(writer.samples(&mut a, &[1, -1]), 0);
+            assert_eq!(writer.finish(&mut a), 0);
+            black_box(&mut a);
+        }
+    };
+    let rust = || {
+        for _ in 0..TIMES {
+            let mut writer = ManuallyDrop::new(CAFWriter::new(Cursor::new(&mut b[..])));
+            let labels = [ChannelLabel::Left, ChannelLabel::Right];
+            writer.configure_audio_format(48000, 2, 24, &labels).expect("a format");
+            writer.write_header().expect("a header");
+            writer.write_pcm_24bit_as_packed(&[1, -1]).expect("room");
+            writer.finish().expect("finish");
+            // its own memory is given back, its finish is done
+            drop(ManuallyDrop::into_inner(writer));
+            black_box(&mut b);
+        }
+    };
+    race("header to finish of a 98-byte clip", TIMES, vec![("ours", Box::new(ours)), ("Rust", Box::new(rust))]);
+    assert_eq!(a, b);
+}
+
+fn main() {
+    println!("medians of {RUNS} runs; buffers written before and not cleared between; ratio is ours to the other");
+    let example = Rust.run(&known::example_script()).pop().expect("a file").file;
+    readings("98 bytes, 3 chunks", &example);
+    readings("1000 chunks", &many_chunks(998));
+    packing(false);
+    packing(true);
+    for size in [4 << 10, 64 << 10, 1 << 20] {
+        data(size);
+    }
+    clip();
+}
