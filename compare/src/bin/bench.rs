@@ -3,8 +3,8 @@
 //! Every buffer is written once before anything is timed and is not cleared between runs. The sides take turns, and
 //! each goes through a buffer of its own of the same length, so that none finds its memory warmer than another.
 
-#[path = "../ours.rs"]
-mod ours;
+#[path = "../linked.rs"]
+mod linked;
 
 use std::hint::black_box;
 use std::io::Cursor;
@@ -16,7 +16,7 @@ use harness::files::{HEADS, chunk, format_body};
 use harness::known;
 use harness::oracle::Rust;
 use oracle::caf::{CAFWriter, ChannelLabel, Endianness, PCMDataType, parse_caf_file};
-use ours::Writer;
+use linked::Writer;
 
 const RUNS: usize = 11;
 const REGION: usize = 16 << 20;
@@ -63,12 +63,12 @@ fn readings(what: &str, file: &[u8]) {
     };
     let plain = || {
         for _ in 0..TIMES {
-            black_box(ours::plain(black_box(file)));
+            black_box(linked::plain(black_box(file)));
         }
     };
     let strict = || {
         for _ in 0..TIMES {
-            black_box(ours::strict(black_box(file)));
+            black_box(linked::strict(black_box(file)));
         }
     };
     race(&format!("plain reading, {what}"), TIMES, vec![("ours", Box::new(plain)), ("Rust", Box::new(rust))]);
@@ -123,7 +123,7 @@ fn packing(little: bool) {
     let order = if little { "little" } else { "big" };
     let ours = || {
         for place in a[HEADER..].chunks_exact_mut(3 * SAMPLES) {
-            assert_eq!(ours::pack(black_box(&samples), little, place), 0);
+            assert_eq!(linked::pack(black_box(&samples), little, place), 0);
         }
     };
     let plain = || {

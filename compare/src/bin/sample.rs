@@ -14,7 +14,7 @@ use harness::script::Script;
 use harness::scripts;
 
 const SEED: u64 = 1;
-const RANDOM_FILES: usize = 120;
+const RANDOM_FILES: usize = 50;
 const RANDOM_SCRIPTS: usize = 130;
 const RANDOM_SAMPLES: usize = 20;
 
