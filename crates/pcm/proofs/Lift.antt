@@ -1,12 +1,12 @@
 -- Samples of 32 bits and their low 24 bits, through the casts of the code.
 use mathlib.Core.Path.{_≡_, refl, ap}
-use Prim.Native.Nat.{ℕ, suc, _+_, _-_, _%_, _<_, _≤_, _^_}
+use Prim.Native.Nat.{ℕ, suc, _+_, _-_, _%_, _^_}
 use native.Mathlib.Omega.{arith}
-use lib.IntN.{ℤ, pos, negsuc, _+ℤ_, _-ℤ_}
+use lib.IntN.{ℤ, pos, negsuc, _+ℤ_}
 use mir.Syntax.{w32, w64}
 use mir.Val.{SFits, toZ, ofZ}
-use mir.ValLaws.{toZ-ofZ, toZ-pos}
-use borrow.Author.Tests.{le-ltb, lt-ltb}
+use mir.ValLaws.{toZ-ofZ}
+use borrow.Author.Tests.{le-ltb}
 use Rattle.pcm.specs.Sample.{low24}
 
 -- a sample and 2^32

@@ -1,12 +1,12 @@
 -- Packed samples: how many bytes they are, the first of them, and the stores of one sample.
 use mathlib.Core.Path.{_≡_, refl, ap, sym, _∙_}
-use mathlib.Core.List.{List, [], _∷_, _++_, append-assoc, append-nil}
+use mathlib.Core.List.{List, [], _∷_, _++_}
 use Prim.Native.Nat.{ℕ, zero, suc, _+_, _*_, _<_, _≤_}
 use native.Mathlib.Omega.{arith}
 use native.Mathlib.Numerals.{add-one, add-two}
 use lib.IntN.{ℤ, pos}
 use lib.ListN.{length, take, drop, getD, set, length-append}
-use lib.Seq.{take-append-le, take-all, take-suc, length-take-le, sets-eq, take-at, take-add, take-append-add, drop-at, drop-cons, drop-append-add}
+use lib.Seq.{take-append-le, take-all, sets-eq, take-add, take-append-add, drop-cons, drop-append-add}
 use Rattle.byteorder.specs.Splice.{splice}
 use Rattle.format.specs.declared.Endianness.{Endianness}
 use Rattle.format.specs.declared.Endianness.the-variants.{BigEndian, LittleEndian}
@@ -34,7 +34,7 @@ drop-packed e (suc k) (x ∷ xs) =
     rw (h, drop-append-add) (drop-packed e k xs)
 
 -- the first bytes are those of the first samples
-take-packed : (e : Endianness) (k : ℕ) (xs : List ℤ) → take (sampleSize * k) (packed e xs) ≡ packed e (take k xs)
+pub take-packed : (e : Endianness) (k : ℕ) (xs : List ℤ) → take (sampleSize * k) (packed e xs) ≡ packed e (take k xs)
 take-packed e zero xs = refl
 take-packed e (suc k) [] = let h : sampleSize * suc k ≡ suc (suc (suc (sampleSize * k))) = omega arith in rw h
 take-packed e (suc k) (x ∷ xs) =

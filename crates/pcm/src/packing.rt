@@ -1,11 +1,12 @@
 // Samples packed into a lent buffer.
 use crate::sample::SAMPLE_SIZE;
 use crate::sample::sample_bytes;
+use byteorder::store::store;
 use format::Endianness;
 ghost use mathlib.Core.Path.{_≡_};
-ghost use Prim.Native.Nat.{_+_, _*_, _≤_};
+ghost use Prim.Native.Nat.{_+_, _*_, _≤_, min};
 ghost use lib.ListN.{length, take};
-ghost use Rattle.byteorder.specs.Splice.{splice};
+ghost use Rattle.byteorder.specs.Splice.{splice, storeCount, storeFirst};
 ghost use Rattle.pcm.specs.Sample.{low24, bytes24};
 ghost use Rattle.pcm.specs.Packing.{sampleSize, packed};
 
@@ -29,4 +30,58 @@ fn put_samples(samples: &[i32], endianness: Endianness, buf: &mut [u8], at: usiz
         put_sample(buf, at + SAMPLE_SIZE * i, samples[i], endianness);
         i += 1;
     }
+}
+
+// The first r bytes of a sample.
+fn put_part(buf: &mut [u8], at: usize, x: i32, endianness: Endianness, r: usize)
+    requires { ⌜ (r ≤ sampleSize) × (at + r ≤ length (now buf)) ⌝ }
+    ensures { λ _. ⌜ now (buf .exit) ≡ splice (now (buf .entry)) at (take r (bytes24 endianness (low24 x))) ⌝ }
+{
+    let b = sample_bytes(x, endianness);
+    store(buf, at, &b, r);
+}
+
+// The first `count` bytes: whole samples, and what is left of the next.
+fn put_first(samples: &[i32], endianness: Endianness, buf: &mut [u8], at: usize, count: usize)
+    requires { ⌜ (count ≤ sampleSize * length (now samples)) × (at + count ≤ length (now buf)) ⌝ }
+    ensures { λ _. ⌜ now (buf .exit) ≡ splice (now (buf .entry)) at (take count (packed endianness (now (samples .entry)))) ⌝ }
+{
+    let k = count / SAMPLE_SIZE;
+    put_samples(samples, endianness, buf, at, k);
+    let r = count % SAMPLE_SIZE;
+    if 0 < r {
+        put_part(buf, at + SAMPLE_SIZE * k, samples[k], endianness, r);
+    }
+}
+
+// n, or the bytes of `many` samples if they are fewer. The product need not fit a usize where it is the larger.
+fn bytes_wanted(many: usize, n: usize) -> usize
+    ensures { λ r. ⌜ r ≡ min n (sampleSize * many) ⌝ }
+{
+    if n / SAMPLE_SIZE < many {
+        return n;
+    }
+    SAMPLE_SIZE * many
+}
+
+// The first n stores of the packed samples from `at` on, or all if there are fewer; none where they have no room. n counts bytes, so
+// the last sample may be stored in part.
+pub fn pack_first(
+    samples: &[i32],
+    endianness: Endianness,
+    buf: &mut [u8],
+    at: usize,
+    n: usize,
+) -> usize
+    ensures { λ r. ⌜ (r ≡ storeCount n (sampleSize * length (now (samples .entry))) at (length (now (buf .entry)))) × (now (buf .exit) ≡ storeFirst n (packed endianness (now (samples .entry))) at (now (buf .entry))) ⌝ }
+{
+    let count = bytes_wanted(samples.len(), n);
+    if buf.len() < count {
+        return 0;
+    }
+    if buf.len() - count < at {
+        return 0;
+    }
+    put_first(samples, endianness, buf, at, count);
+    count
 }

@@ -1,12 +1,10 @@
 use mathlib.Core.Path.{_≡_, refl, ap, sym, _∙_}
-use mathlib.Core.List.{List}
-use Prim.Native.Nat.{ℕ, _≤_, _<_, _-_, _+_, _*_}
+use Prim.Native.Nat.{ℕ, _≤_, _-_, _+_, _*_}
 use lib.ListN.{length, take, getD}
-use lib.IntN.{ℤ, pos}
+use lib.IntN.{pos}
 use native.Mathlib.Numerals.{add-one}
 use native.Mathlib.Omega.{arith}
 use borrow.Author.Needs.{needs}
-use mir.ValLaws.{toZ-ofZ}
 use mir.Val.{SFits}
 use mir.Syntax.{w32}
 use Rattle.byteorder.specs.Splice.{splice}
@@ -61,12 +59,11 @@ loop-again c =
     let b : p .put-sample .last .0 ≡ splice (l .buf) (a .at + sampleSize * l .i) (bytes24 e u) =
     p .put-sample .ensures ∙ ap (λ (v : ℕ). splice (l .buf) (a .at + sampleSize * l .i) (bytes24 e v)) (passed (getD xs (l .i) (pos 0)) h) in
     let k = length-bytes24 e u in
-    let n : length (packed e (take (l .i) xs)) ≡ sampleSize * l .i = length-packed e (take (l .i) xs) ∙ ap (λ (m : ℕ). sampleSize * m) (length-take-le (l .i) xs (omega arith)) in
-    (
+    let n : length (packed e (take (l .i) xs)) ≡ sampleSize * l .i = length-packed e (take (l .i) xs) ∙ ap (λ (m : ℕ). sampleSize * m) (length-take-le (l .i) xs (omega arith)) in (
       omega arith,
       omega (arith, p .put-sample .kept),
       rw (add-one, packed-suc e xs (l .i) (omega arith))
-      (more (a .buf .now) (a .at) (sampleSize * l .i) (packed e (take (l .i) xs)) (bytes24 e u) (l .inv .2) b n (omega arith)),
+          (more (a .buf .now) (a .at) (sampleSize * l .i) (packed e (take (l .i) xs)) (bytes24 e u) (l .inv .2) b n (omega arith)),
     )
 
 same-length : tie.Need-same-length Inv-loop μ-loop
