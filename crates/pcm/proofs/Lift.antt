@@ -1,12 +1,12 @@
 -- Samples of 32 bits and their low 24 bits, through the casts of the code.
 use mathlib.Core.Path.{_≡_, refl, ap}
-use Prim.Native.Nat.{ℕ, suc, _+_, _-_, _%_, _^_}
+use Prim.Native.Nat.{ℕ, suc, _+_, _-_, _%_, _^_, _≤_, _<_}
 use native.Mathlib.Omega.{arith}
-use lib.IntN.{ℤ, pos, negsuc, _+ℤ_}
+use lib.IntN.{ℤ, pos, negsuc, _+ℤ_, _-ℤ_}
 use mir.Syntax.{w32, w64}
 use mir.Val.{SFits, toZ, ofZ}
-use mir.ValLaws.{toZ-ofZ}
-use borrow.Author.Tests.{le-ltb}
+use mir.ValLaws.{toZ-ofZ, toZ-pos}
+use borrow.Author.Tests.{le-ltb, lt-ltb}
 use Rattle.pcm.specs.Sample.{low24}
 
 -- a sample and 2^32
@@ -40,3 +40,12 @@ cast z h = rw (added z h) (toZ-ofZ w64 (pos (lift z)) (lift-fits z h))
 -- a sample that is passed on arrives as it was
 pub passed : (z : ℤ) → SFits w32 z → low24 (toZ w32 (ofZ w32 z)) ≡ low24 z
 passed z h = ap low24 (toZ-ofZ w32 z h)
+
+-- the other way: from 2^23 up the code takes 2^24 away
+pub dropped : (u : ℕ) → 2 ^ 23 ≤ u → u < 2 ^ 24 → toZ w32 u -ℤ pos (2 ^ 24) ≡ negsuc (2 ^ 24 - 1 - u)
+dropped u h k =
+    let e : 2 ^ 24 - suc u ≡ 2 ^ 24 - 1 - u = omega arith in
+    rw (toZ-pos w32 u (omega arith), lt-ltb u (2 ^ 24) k, e)
+
+pub dropped-fits : (u : ℕ) → 2 ^ 23 ≤ u → SFits w32 (negsuc (2 ^ 24 - 1 - u))
+dropped-fits u h = omega arith

@@ -1,6 +1,8 @@
 // Samples packed into a lent buffer.
 use crate::sample::SAMPLE_SIZE;
 use crate::sample::sample_bytes;
+use answers::DONE;
+use answers::NO_ROOM;
 use byteorder::store::store;
 use format::Endianness;
 ghost use mathlib.Core.Path.{_≡_};
@@ -8,7 +10,7 @@ ghost use Prim.Native.Nat.{_+_, _*_, _≤_, min};
 ghost use lib.ListN.{length, take};
 ghost use Rattle.byteorder.specs.Splice.{splice, storeCount, storeFirst};
 ghost use Rattle.pcm.specs.Sample.{low24, bytes24};
-ghost use Rattle.pcm.specs.Packing.{sampleSize, packed};
+ghost use Rattle.pcm.specs.Packing.{sampleSize, packed, packNumber, packInto};
 
 fn put_sample(buf: &mut [u8], at: usize, x: i32, endianness: Endianness)
     requires { ⌜ at + sampleSize ≤ length (now buf) ⌝ }
@@ -84,4 +86,15 @@ pub fn pack_first(
     }
     put_first(samples, endianness, buf, at, count);
     count
+}
+
+pub fn pack(samples: &[i32], endianness: Endianness, out: &mut [u8]) -> u32
+    ensures { λ r. ⌜ (r ≡ packNumber (now (samples .entry)) (length (now (out .entry)))) × (now (out .exit) ≡ packInto endianness (now (samples .entry)) (now (out .entry))) ⌝ }
+{
+    let many = samples.len();
+    if out.len() / SAMPLE_SIZE < many {
+        return NO_ROOM;
+    }
+    pack_first(samples, endianness, out, 0, SAMPLE_SIZE * many);
+    DONE
 }
