@@ -1,6 +1,6 @@
 -- A rate goes to its bits and back, and bits to their rate and back, except not-a-number, which has no one pattern.
-use mathlib.Core.Path.{_≡_, refl, ap, _∙_}
-use mathlib.Core.Bool.{Bool, true, false, not}
+use mathlib.Core.Path.{_≡_}
+use mathlib.Core.Bool.{not}
 use Prim.Native.Nat.{ℕ, _<_, _^_}
 use lib.Dec.{T}
 use lib.Ieee.{Float, binary64, fits}
