@@ -41,8 +41,8 @@ module _ {A : Type 0} (buf : List A) (p : ℕ) (vs : List A) (room : p + length 
       sym (getD-drop p (splice buf p vs) i d) ∙ sym (getD-take (length vs) (drop p (splice buf p vs)) i d h) ∙ ap (λ (l : List A). getD l i d) values-there
 
 -- a number that fits its width is read where it was stored
-pub number-there : (w n p : ℕ) (buf : List ℕ) → p + w ≤ length buf → n < 256 ^ w → bigAt w (splice buf p (bigBytes w n)) p ≡ n
-number-there w n p buf room fits =
+pub big-there : (w n p : ℕ) (buf : List ℕ) → p + w ≤ length buf → n < 256 ^ w → bigAt w (splice buf p (bigBytes w n)) p ≡ n
+big-there w n p buf room fits =
     let rest = drop (p + length (bigBytes w n)) buf in
     let l : p ≡ length (take p buf) + 0 = omega (arith, length-take-le p buf (omega arith)) in
     ap (λ (s : List ℕ). bigAt w s p) (append-assoc (take p buf) (bigBytes w n) rest)

@@ -39,7 +39,7 @@ module _ (f : AudioFormat) (rest : List ℕ) (typed : Typed f) where
   number-there number = ap notANumber (ap rateOf rate-there ∙ rate-back (f .«sample_rate») (typed .rate)) ∙ is-false (notANumber (f .«sample_rate»)) number
 
 -- `read_desc` takes back what `desc_bytes` gives
-pub desc-back : (f : AudioFormat) → Typed f → RateIsNumber f → descRead (descBody f) ≡ Format f
-desc-back f typed number =
+pub format-read-back : (f : AudioFormat) → Typed f → RateIsNumber f → descRead (descBody f) ≡ Format f
+format-read-back f typed number =
     ap descRead (sym (append-nil (descBody f)))
     ∙ rw (number-there f [] typed number, format-there f [] typed)
