@@ -28,7 +28,7 @@ fn take_samples(bytes: &[u8], endianness: Endianness, out: &mut [i32], k: usize)
 pub fn unpack(bytes: &[u8], endianness: Endianness, out: &mut [i32]) -> u32
     ensures { λ r. ⌜ (r ≡ unpackNumber (now (bytes .entry)) (length (now (out .entry)))) × (now (out .exit) ≡ unpackInto endianness (now (bytes .entry)) (now (out .entry))) ⌝ }
 {
-    if bytes.len() % SAMPLE_SIZE != 0 {
+    if 0 < bytes.len() % SAMPLE_SIZE {
         return ODD_LENGTH;
     }
     let many = bytes.len() / SAMPLE_SIZE;

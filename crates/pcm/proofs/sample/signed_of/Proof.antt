@@ -1,3 +1,4 @@
+use Prim.Native.Nat.{_^_}
 use native.Mathlib.Omega.{arith}
 use borrow.Author.Tests.{le-ltb, lt-ltb}
 use mir.ValLaws.{toZ-ofZ, toZ-pos}
@@ -12,7 +13,7 @@ cast-result c = search needs
 
 returns : tie.Need-returns
 returns c =
-    rw (lt-ltb _ _ (c .if1 .taken)) (toZ-pos w32 (c .before .args .u) (omega arith))
+    rw (lt-ltb (c .before .args .u) (2 ^ 23) (omega arith)) (toZ-pos w32 (c .before .args .u) (omega arith))
 
 cast-result-2 : tie.Need-cast-result-2
 cast-result-2 c = search needs

@@ -16,14 +16,16 @@ use Rattle.pcm.proofs.unpacking.unpack.Tie as tie
 
 returns : tie.Need-returns
 returns c =
-    let odd : eqb (length (c .before .before .args .bytes .now) % sampleSize) 0 ≡ false = ne-eqb _ _ (c .if1 .taken) in
+    let s = c .before .before .args .bytes .now in
+    let odd : eqb (length s % sampleSize) 0 ≡ false = ne-eqb (length s % sampleSize) 0 (λ h. let z : ⊥ = omega arith in z) in
     (rw odd, rw odd)
 
 returns-2 : tie.Need-returns-2
 returns-2 c =
     let a = c .before .before .before .args in
-    let even : eqb (length (a .bytes .now) % sampleSize) 0 ≡ true = eq-eqb _ _ (c .before .if1 .left) in
-    let no : ltb (length (a .out .now)) (length (a .bytes .now) / sampleSize) ≡ true = lt-ltb _ _ (c .if2 .taken) in
+    let s = a .bytes .now in
+    let even : eqb (length s % sampleSize) 0 ≡ true = eq-eqb (length s % sampleSize) 0 (omega arith) in
+    let no : ltb (length (a .out .now)) (length s / sampleSize) ≡ true = lt-ltb (length (a .out .now)) (length s / sampleSize) (omega arith) in
     (rw (even, no), rw (even, no))
 
 take-samples-requires : tie.Need-take-samples-requires
@@ -37,9 +39,9 @@ returns-3 c =
     let t = c .before in
     let a = t .before .before .before .before .before .args in
     let s = a .bytes .now in
-    let even : eqb (length s % sampleSize) 0 ≡ true = eq-eqb _ _ (t .before .before .before .if1 .left) in
-    let yes : ltb (length (a .out .now)) (length s / sampleSize) ≡ false = le-ltb _ _ (t .before .before .if2 .left) in
-    let all : take (sampleSize * (length s / sampleSize)) s ≡ s = take-all (sampleSize * (length s / sampleSize)) s (omega (arith, t .before .before .before .if1 .left)) in
+    let even : eqb (length s % sampleSize) 0 ≡ true = eq-eqb (length s % sampleSize) 0 (omega arith) in
+    let yes : ltb (length (a .out .now)) (length s / sampleSize) ≡ false = le-ltb (length (a .out .now)) (length s / sampleSize) (omega arith) in
+    let all : take (sampleSize * (length s / sampleSize)) s ≡ s = take-all (sampleSize * (length s / sampleSize)) s (omega arith) in
     (rw (even, yes), rw (even, yes) (t .take-samples .ensures ∙ ap (λ (bs : List ℕ). splice (a .out .now) 0 (unpacked (a .endianness) bs)) all))
 
 pub unpack-spec : {M : Type 1} → statement M
