@@ -26,6 +26,10 @@ module _ (n at : ℕ) (bytes buf : List ℕ) where
   pub all-done : at + min n (length bytes) ≤ length buf → (min n (length bytes) ≡ storeCount n (length bytes) at (length buf)) × (splice buf at (take n bytes) ≡ storeFirst n bytes at buf)
   all-done h = let yes = le-leb _ _ h in (rw yes, rw yes)
 
+  -- with a budget for all of them and room
+  pub whole-done : length bytes ≡ n → at + n ≤ length buf → storeFirst n bytes at buf ≡ splice buf at bytes
+  whole-done e h = sym (all-done (omega arith) .1) ∙ ap (λ (bs : List ℕ). splice buf at bs) (take-all n bytes (omega arith))
+
   -- k stores went to a part of the buffer of their own, which is put back
   pub part-done : (k : ℕ) (part : List ℕ) → k ≡ min n (length bytes) → part ≡ take k bytes → at + k ≤ length buf → (k ≡ storeCount n (length bytes) at (length buf)) × (putMid at (at + k - at) buf part ≡ storeFirst n bytes at buf)
   part-done k part is p h =

@@ -8,7 +8,7 @@ ghost use Prim.Native.Nat.{_<_, _≤_};
 ghost use lib.ListN.{getD};
 ghost use Rattle.byteorder.specs.Same.{exactly};
 ghost use Rattle.layout.specs.Table.{standardLayouts, beyond, row, rowOrder};
-ghost use Rattle.layout.specs.Search.{layoutFor};
+ghost use Rattle.layout.specs.Search.{layoutFor, layoutFrom};
 
 // Only the first `count` labels of a row are its order, so the count is compared too.
 fn matches(row: Row, labels: &[u32]) -> bool
@@ -48,4 +48,14 @@ pub fn layout_for(labels: &[u32]) -> ChannelLayout
         i += 1;
     }
     ChannelLayout::Described
+}
+
+// No layout where the labels are not as many as the channels.
+pub fn layout_from(labels: &[u32], channels: u32) -> ChannelLayout
+    ensures { λ r. ⌜ r ≡ layoutFrom (now (labels .entry)) channels ⌝ }
+{
+    if labels.len() != channels as usize {
+        return ChannelLayout::NoLayout;
+    }
+    layout_for(labels)
 }

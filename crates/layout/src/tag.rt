@@ -1,4 +1,7 @@
 // The 50 channel layout tags, the Rust's `ChannelLayoutTag`: the low half is the count of channels.
+ghost use mathlib.Core.Path.{_≡_};
+ghost use Rattle.layout.specs.Tags.{channels};
+
 pub const USE_CHANNEL_DESCRIPTIONS: u32 = 0;
 
 pub const USE_CHANNEL_BITMAP: u32 = 0x1_0000;
@@ -152,3 +155,11 @@ pub(crate) const TAGS: [u32; 50] = [
     TMH_10_2_FULL,
     RESERVED_DO_NOT_USE,
 ];
+
+const LOW_HALF: u32 = 0x1_0000;
+
+pub fn tag_channels(tag: u32) -> u32
+    ensures { λ r. ⌜ r ≡ channels tag ⌝ }
+{
+    tag % LOW_HALF
+}
