@@ -1,18 +1,15 @@
 -- What is to be proved of the table. Each claim is a type; its proof stands in proofs/.
 use Prim.Native.Nat.{ℕ, _<_, _≤_}
 use mathlib.Core.Path.{_≡_}
-use mathlib.Core.Bool.{Bool, true, false, cond}
+use mathlib.Core.Bool.{true, cond}
 use mathlib.Core.List.{List, [], _∷_}
 use mathlib.Core.Option.{some}
-use lib.Dec.{eqb}
 use lib.ListN.{length, getD}
 use Rattle.layout.specs.Tags as tag
 use Rattle.layout.specs.Known.{knownTag, allKnown}
 use Rattle.layout.specs.Table.{StandardLayout, standardLayouts, beyond, rowPlaces}
-use Rattle.layout.specs.Search.{layoutFor}
+use Rattle.layout.specs.Search.{layoutFor, hasTag}
 use Rattle.layout.specs.Order.{orderFor}
-use Rattle.layout.specs.declared.ChannelLayout.{ChannelLayout}
-use Rattle.layout.specs.declared.ChannelLayout.the-variants.{NoLayout, Tagged, Described}
 
 -- a row's tag and labels are among the 50 and the 47; it has as many labels as its tag tells, of which the code's row has room for
 -- all; and its tag leads back to its own order
@@ -25,12 +22,6 @@ pub record RowRules (r : StandardLayout) : Type 0 where
 
 abbrev pub EachRow : Type 0
 EachRow = (i : ℕ) → i < length standardLayouts → RowRules (getD standardLayouts i beyond)
-
--- a layout is told by this tag
-abbrev pub hasTag : ChannelLayout → ℕ → Bool
-hasTag NoLayout tag = false
-hasTag (Tagged t) tag = eqb t tag
-hasTag Described tag = false
 
 -- of some rows the tags that their own labels do not get, because an earlier row has the same
 abbrev pub shadowed : List StandardLayout → List ℕ
