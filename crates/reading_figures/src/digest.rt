@@ -47,7 +47,9 @@ fn fold_plain(digest: u64, answer: PlainAnswer) -> u64 {
         PlainAnswer::Found(info, chunks) => {
             let met = fold_refusal(digest, answers::DONE, chunks);
             let places = fold_size(fold_size(met, info.size_position), info.data_start);
-            fold_maybe(fold_order(places, info.endianness), info.format)
+            let order = info.endianness;
+            let format = info.format;
+            fold_maybe(fold_order(places, order), format)
         }
     }
 }
@@ -67,7 +69,15 @@ fn fold_strict(digest: u64, answer: StrictAnswer) -> u64 {
     }
 }
 
-// Both readings of the file cut after each byte from `from` to `to`.
+// Both readings of the first n bytes.
+fn fold_file(digest: u64, file: &[u8], n: usize) -> u64
+    requires { ⌜ n ≤ length (now file) ⌝ }
+{
+    let cut = &file[..n];
+    fold_strict(fold_plain(digest, parse_caf_file(cut)), read_strict(cut))
+}
+
+// The file cut after each byte from `from` to `to`.
 pub(crate) fn every_cut(file: &[u8], from: usize, to: usize, so_far: u64) -> u64
     requires { ⌜ (from ≤ to) × (to ≤ length (now file)) ⌝ }
 {
@@ -75,8 +85,7 @@ pub(crate) fn every_cut(file: &[u8], from: usize, to: usize, so_far: u64) -> u64
     let mut n = from;
     while n < to {
         n += 1;
-        digest = fold_plain(digest, parse_caf_file(&file[..n]));
-        digest = fold_strict(digest, read_strict(&file[..n]));
+        digest = fold_file(digest, file, n);
     }
     digest
 }

@@ -52,7 +52,7 @@ fn line(slots: &[u8], file: &mut [u8], at: usize)
     requires { ⌜ at ≤ length (now file) ⌝ }
     ensures { λ _. ⌜ length (now (file .exit)) ≡ length (now (file .entry)) ⌝ }
 {
-    both_answers(&file[..at]);
+    both_answers(file, at);
     word(b" after");
     number(two_more(slots, file, at));
     newline();

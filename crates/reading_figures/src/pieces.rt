@@ -1,30 +1,50 @@
 // The pieces, and a file that is put together from them.
 ghost use mathlib.Core.Path.{_≡_};
-ghost use Prim.Native.Nat.{_≤_};
+ghost use Prim.Native.Nat.{_+_, _<_, _≤_};
 ghost use lib.ListN.{length};
 
 pub(crate) const PIECES: usize = 13;
 
 pub(crate) const SLOT: usize = 64;
 
+fn wide(b: u8) -> usize {
+    b as usize
+}
+
+fn least(a: usize, b: usize) -> usize
+    ensures { λ r. ⌜ (r ≤ a) × (r ≤ b) ⌝ }
+{
+    if a < b {
+        return a;
+    }
+    b
+}
+
+// Copies n bytes behind the first one of a slot.
+fn copy(slot: &[u8], file: &mut [u8], at: usize, n: usize)
+    requires { ⌜ (n < length (now slot)) × (at + n ≤ length (now file)) ⌝ }
+    ensures { λ _. ⌜ length (now (file .exit)) ≡ length (now (file .entry)) ⌝ }
+{
+    let mut j: usize = 0;
+    while j < n {
+        file[at + j] = slot[j + 1];
+        j += 1;
+    }
+}
+
 // Puts the piece of one slot behind the first `at` bytes of the file; gives its new length.
-fn copy(slot: &[u8], file: &mut [u8], at: usize) -> usize
+fn put_piece(slot: &[u8], file: &mut [u8], at: usize) -> usize
     requires { ⌜ at ≤ length (now file) ⌝ }
     ensures { λ r. ⌜ (at ≤ r) × (r ≤ length (now (file .exit))) ⌝ }
     ensures { λ _. ⌜ length (now (file .exit)) ≡ length (now (file .entry)) ⌝ }
 {
-    let mut end = at;
-    let mut j: usize = 1;
-    while j < slot.len() {
-        if j <= slot[0] as usize {
-            if end < file.len() {
-                file[end] = slot[j];
-                end += 1;
-            }
-        }
-        j += 1;
+    if slot.len() == 0 {
+        return at;
     }
-    end
+    let room = least(slot.len() - 1, file.len() - at);
+    let n = least(wide(slot[0]), room);
+    copy(slot, file, at, n);
+    at + n
 }
 
 // The same by the piece's number.
@@ -38,5 +58,5 @@ pub(crate) fn put(slots: &[u8], i: usize, file: &mut [u8], at: usize) -> usize
     if slots.len() < to {
         return at;
     }
-    copy(&slots[from..to], file, at)
+    put_piece(&slots[from..to], file, at)
 }

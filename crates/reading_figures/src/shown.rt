@@ -9,6 +9,8 @@ use reading::plain::parse_caf_file;
 use reading::strict::read_strict;
 use show::decimal;
 use show::word;
+ghost use Prim.Native.Nat.{_≤_};
+ghost use lib.ListN.{length};
 
 // A blank and a number.
 pub(crate) fn number(n: u64) {
@@ -51,8 +53,10 @@ fn plain_words(answer: PlainAnswer) {
             numbers(answers::DONE, chunks);
             size(info.size_position);
             size(info.data_start);
-            order_word(info.endianness);
-            maybe_words(info.format);
+            let order = info.endianness;
+            let format = info.format;
+            order_word(order);
+            maybe_words(format);
         }
     }
 }
@@ -80,11 +84,14 @@ fn strict_words(answer: StrictAnswer) {
     }
 }
 
-// The length of a file, and both answers.
-pub(crate) fn both_answers(file: &[u8]) {
-    size(file.len());
+// The length of a file, the first n bytes here, and both answers.
+pub(crate) fn both_answers(file: &[u8], n: usize)
+    requires { ⌜ n ≤ length (now file) ⌝ }
+{
+    let cut = &file[..n];
+    size(n);
     word(b" plain");
-    plain_words(parse_caf_file(file));
+    plain_words(parse_caf_file(cut));
     word(b" strict");
-    strict_words(read_strict(file));
+    strict_words(read_strict(cut));
 }
