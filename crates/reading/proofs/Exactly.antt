@@ -33,8 +33,7 @@ use Rattle.reading.specs.declared.PlainAnswer.the-variants.{Found, NotRe
 use Rattle.reading.specs.declared.StrictAnswer.{StrictAnswer}
 use Rattle.reading.specs.declared.StrictAnswer.the-variants.{Accepted, Rejected}
 use Rattle.reading.proofs.Choice.{either}
-use Rattle.reading.proofs.Walk.{Ahead, walk-on}
-use Rattle.reading.proofs.Turn.{forward-by}
+use Rattle.reading.proofs.Walk.{Ahead, step-ahead, walk-on}
 use Rattle.reading.proofs.Place.{step-of, place-of, differs}
 
 both : (a b : Bool) → a && b ≡ true → (a ≡ true) × (b ≡ true)
@@ -83,7 +82,7 @@ module _ (s : List ℕ) where
   Comes Strict p f k = (strict s ≡ strictAnswer s first (walk strictStep s p f k)) × (f ≡ Present first)
 
   turn-to : (rules : Rules) (p : ℕ) (f : MaybeFormat) (k : ℕ) (st : Step) → Place s p rules st → walk (stepBy rules) s p f k ≡ next (walk (stepBy rules) s) f k st
-  turn-to rules p f k st row = walk-on (stepBy rules) (forward-by rules) s p f k ∙ ap (next (walk (stepBy rules) s) f k) (step-of s p rules st row)
+  turn-to rules p f k st row = walk-on rules s p f k ∙ ap (next (walk (stepBy rules) s) f k) (step-of s p rules st row)
 
   comes-desc : (rules : Rules) (p : ℕ) (f : MaybeFormat) (k : ℕ) (g : AudioFormat) (q : ℕ) → Comes rules p f k → Place s p rules (Format g q) → Comes rules q (Present g) (k + 1)
   comes-desc rules p f k g q c (Table.over-desc h b r) = c ∙ turn-to rules p f k (Format g q) (Table.over-desc h b r)
@@ -161,7 +160,7 @@ module _ (s : List ℕ) where
   unfolding steps
   gives-steps rules zero p f k h at = absurd (let z : ⊥ = omega arith in z)
   gives-steps rules (suc n) p f k h at =
-      gives-next rules (steps (stepBy rules) n s) p f k (stepBy rules s p) at (place-of s p rules) (forward-by rules s p)
+      gives-next rules (steps (stepBy rules) n s) p f k (stepBy rules s p) at (place-of s p rules) (step-ahead rules s p)
       (λ q g j a b to. gives-steps rules n q g j (omega arith) to)
 
   gives-walk : (rules : Rules) (p : ℕ) (f : MaybeFormat) (k : ℕ) → Reaches s rules p f k → Gives rules (walk (stepBy rules) s p f k)

@@ -27,14 +27,8 @@ use Rattle.reading.specs.declared.CAFFileInfo.{CAFFileInfo}
 use Rattle.reading.specs.declared.StrictInfo.{StrictInfo}
 use Rattle.reading.specs.declared.PlainAnswer.the-variants.{Found}
 use Rattle.reading.specs.declared.StrictAnswer.the-variants.{Accepted}
-use Rattle.reading.proofs.Walk.{Ahead}
-use Rattle.reading.proofs.Turn.{forward-by}
-use Rattle.reading.proofs.Place.{step-of}
+use Rattle.reading.proofs.Walk.{Ahead, ahead}
 use Rattle.reading.proofs.Exactly.{plain-exactly, strict-exactly}
-
--- how far a row goes
-ahead : (s : List ℕ) (p : ℕ) (rules : Rules) (st : Step) → Place s p rules st → Ahead (length s) p st
-ahead s p rules st row = rw (step-of s p rules st row) at (forward-by rules s p)
 
 -- four bytes of a list, from its first n
 four-of : (s : List ℕ) (p n : ℕ) → p + 4 ≤ n → p ≤ length s → fourAt s p ≡ drop p (take (p + 4) (take n s))

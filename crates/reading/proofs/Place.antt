@@ -22,7 +22,7 @@ use Rattle.reading.specs.declared.Step.{Step}
 use Rattle.reading.specs.declared.Step.the-variants.{Format, Skip, Data, Refused}
 use Rattle.reading.specs.declared.Rules.{Rules}
 use Rattle.reading.specs.declared.Rules.the-variants.{Plain, Strict}
-use Rattle.reading.proofs.Walk.{either}
+use Rattle.reading.proofs.Choice.{either}
 
 -- four bytes that do not stand at a position
 pub differs : (s : List ℕ) (p : ℕ) (t : List ℕ) → exactly (fourAt s p) t ≡ false → ¬ (fourAt s p ≡ t)
