@@ -1,10 +1,14 @@
 // Replays the Rust's answers, which stand in the file `stdin` (compare/README.md gives the meaning of each byte), and prints how many
 // are ours too. It needs no Rust.
 mod input;
+mod labels;
 mod readings;
+mod samples;
 
 use input::count;
+use labels::same_labels;
 use readings::same_reading;
+use samples::same_samples;
 
 struct Tally {
     same: u64,
@@ -16,7 +20,9 @@ const CASE_HEAD: usize = 5;
 
 fn same_case(kind: u8, body: &[u8]) -> bool {
     match kind {
+        b'L' => same_labels(body),
         b'R' => same_reading(body),
+        b'S' => same_samples(body),
         _ => false,
     }
 }
