@@ -18,7 +18,7 @@ const LEAST_START: usize = 24;
 const LABEL_PLACES: usize = 64;
 
 // The longest file.
-const FILE_MAX: usize = 0x7FFF_FFFF_FFFF_FFFF;
+pub(crate) const FILE_MAX: usize = 0x7FFF_FFFF_FFFF_FFFF;
 
 // Whether a file of this length is longer than the buffer, or than any file may be.
 pub(crate) fn is_too_long(len: usize, room: usize) -> bool

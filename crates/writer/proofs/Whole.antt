@@ -1,0 +1,87 @@
+-- The whole calls, from the answers of their counted forms with a budget that no call exceeds.
+use mathlib.Core.Path.{_≡_, refl, sym, _∙_, ap}
+use mathlib.Core.Bool.{Bool, true, false, cond}
+use mathlib.Core.List.{List, []}
+use Prim.Native.Nat.{ℕ, _+_, _^_, _≤_, _<_}
+use native.Mathlib.Nat.{min-eq-right}
+use native.Mathlib.Omega.{arith}
+use lib.Dec.{eqb, lit<}
+use lib.ListN.{length}
+use borrow.Author.Tests.{eqb-true}
+use Rattle.answers.specs.Numbers.{done}
+use Rattle.writer.specs.Record.{withData}
+use Rattle.writer.specs.Outcome.{Outcome, stores, unchanged, unlessRefused, answer, bufferAfter, counted, bufferCut}
+use Rattle.writer.specs.Data.{dataNumber, dataCall}
+use Rattle.writer.specs.Claims.{Unchanged}
+use Rattle.writer.specs.declared.CAFWriter.{CAFWriter}
+use Rattle.writer.specs.declared.Wrote.{Wrote}
+use Rattle.writer.specs.declared.Counted.{Counted}
+use Rattle.writer.proofs.Tests.{accepted-number, accepted}
+use Rattle.writer.proofs.Facts.{sound-alone, headed}
+use Rattle.writer.proofs.Kept.{data-allowed}
+use Rattle.writer.proofs.Refused.{refused-unchanged}
+use Rattle.writer.proofs.Counting.{cut-whole}
+
+-- the largest usize
+abbrev pub all : ℕ
+all = 0xFFFF_FFFF_FFFF_FFFF
+
+module _ (w : CAFWriter) (o : Outcome) (r : Counted) (given : r ≡ counted all o w) where
+  pub whole-number : r .number ≡ o .number
+  whole-number = ap (λ (x : Counted). x .number) given
+
+  pub whole-refused : Unchanged o w → (r .number ≡ done → ⊥) → _≡_ {A = Wrote} (record { number = r .number; writer = w }) (answer o)
+  whole-refused u h = rw (whole-number, u (λ e. h (whole-number ∙ e)))
+
+  pub whole-stores : length (o .bytes) ≤ all → r .stores ≡ length (o .bytes)
+  whole-stores l = ap (λ (x : Counted). x .stores) given ∙ min-eq-right l
+
+pub whole-buffer : (o : Outcome) → length (o .bytes) ≤ all → (buf buf' : List ℕ) → buf' ≡ bufferCut all o buf → buf' ≡ bufferAfter o buf
+whole-buffer o l buf buf' e = e ∙ ap (λ (x : Outcome). bufferAfter x buf) (cut-whole all o l)
+
+-- a call that was not refused, and what is stored by it
+module _ (number : ℕ) (w : CAFWriter) (o : Outcome) where
+  pub stored-most : (m : ℕ) → (number ≡ done → length (o .bytes) ≤ m) → length (unlessRefused number w o .bytes) ≤ m
+  stored-most m h = go (eqb number done) refl
+    where
+      go : (b : Bool) → eqb number done ≡ b → length (cond b o (unchanged number w) .bytes) ≤ m
+      go true e = h (eqb-true number done e)
+      go false e = omega arith
+
+-- the data call
+module _ (w : CAFWriter) (room : ℕ) (bs : List ℕ) (fits : room ≤ all) where
+  data-most : length (dataCall w room bs .bytes) ≤ all
+  unfolding dataCall
+  data-most = stored-most (dataNumber w room (length bs)) w (stores (w .«file_len») bs (withData w (length bs))) all
+      (λ e. let h = data-allowed w room (length bs) e in omega arith)
+
+  data-number : dataCall w room bs .number ≡ done → dataNumber w room (length bs) ≡ done
+  unfolding dataCall
+  data-number h = accepted-number (dataNumber w room (length bs)) w (stores (w .«file_len») bs (withData w (length bs))) h
+
+  data-done : dataCall w room bs .number ≡ done → dataCall w room bs ≡ stores (w .«file_len») bs (withData w (length bs))
+  unfolding dataCall
+  data-done h = accepted (dataNumber w room (length bs)) w (stores (w .«file_len») bs (withData w (length bs))) (data-number h)
+
+  pub data-buffer : (buf buf' : List ℕ) → buf' ≡ bufferCut all (dataCall w room bs) buf → buf' ≡ bufferAfter (dataCall w room bs) buf
+  data-buffer buf buf' e = whole-buffer (dataCall w room bs) data-most buf buf' e
+
+  module _ (r : Counted) (given : r ≡ counted all (dataCall w room bs) w) where
+    pub data-refused : (r .number ≡ done → ⊥) → _≡_ {A = Wrote} (record { number = r .number; writer = w }) (answer (dataCall w room bs))
+    data-refused h = whole-refused w (dataCall w room bs) r given (refused-unchanged .bytes w room bs) h
+
+    module _ (e : r .number ≡ done) where
+      is-done : dataCall w room bs .number ≡ done
+      is-done = sym (whole-number w (dataCall w room bs) r given) ∙ e
+
+      many : r .stores ≡ length bs
+      many = whole-stores w (dataCall w room bs) r given data-most ∙ ap (λ (o : Outcome). length (o .bytes)) (data-done is-done)
+
+      pub data-fits : (w .«file_len» + r .stores < 2 ^ 64) × (w .«data_count» + r .stores < 2 ^ 64)
+      data-fits =
+          let h = data-allowed w room (length bs) (data-number is-done) in
+          let p = headed w (h .header) (sound-alone w room (h .is-sound) .places) in
+          (omega (arith, many), omega (arith, many))
+
+      pub data-answer : (x : CAFWriter) → x ≡ withData w (r .stores) → _≡_ {A = Wrote} (record { number = done; writer = x }) (answer (dataCall w room bs))
+      data-answer x p = rw (p, many, data-done is-done)

@@ -1,0 +1,72 @@
+// The data call: bytes, or samples that are packed on the way. They go to the end of the file.
+use crate::CAFWriter;
+use crate::Counted;
+use crate::Wrote;
+use crate::budget::ALL;
+use crate::budget::with_stores;
+use crate::budget::without_stores;
+use crate::sound::FILE_MAX;
+use answers::BAD_WRITER;
+use answers::DONE;
+use answers::FINISHED;
+use answers::NO_HEADER;
+use answers::NO_ROOM;
+use byteorder::store::store;
+ghost use mathlib.Core.Path.{_≡_};
+ghost use lib.ListN.{length};
+ghost use Rattle.writer.specs.Outcome.{answer, bufferAfter, counted, bufferCut};
+ghost use Rattle.writer.specs.Data.{dataNumber, dataCall};
+
+impl CAFWriter {
+    // The number of a call of n bytes.
+    pub(crate) fn data_number(self, room: usize, n: usize) -> u32
+        ensures { λ r. ⌜ r ≡ dataNumber self room n ⌝ }
+    {
+        if !self.is_sound(room) {
+            return BAD_WRITER;
+        }
+        if self.finished {
+            return FINISHED;
+        }
+        if !self.has_header {
+            return NO_HEADER;
+        }
+        // by what is left: the new length need not fit a usize
+        if room - self.file_len < n {
+            return NO_ROOM;
+        }
+        if FILE_MAX - self.file_len < n {
+            return NO_ROOM;
+        }
+        DONE
+    }
+
+    // Does the first n stores of the call.
+    pub fn write_data_counted(self, buf: &mut [u8], data: &[u8], n: usize) -> Counted
+        ensures { λ r. ⌜ (r ≡ counted n (dataCall self (length (now (buf .entry))) (now («data» .entry))) self) × (now (buf .exit) ≡ bufferCut n (dataCall self (length (now (buf .entry))) (now («data» .entry))) (now (buf .entry))) ⌝ }
+    {
+        let number = self.data_number(buf.len(), data.len());
+        let len = self.file_len;
+        if number != DONE {
+            return without_stores(number, len);
+        }
+        let stores = store(buf, len, data, n);
+        with_stores(len, len, stores)
+    }
+
+    pub fn write_data(self, buf: &mut [u8], data: &[u8]) -> Wrote
+        ensures { λ r. ⌜ (r ≡ answer (dataCall self (length (now (buf .entry))) (now («data» .entry)))) × (now (buf .exit) ≡ bufferAfter (dataCall self (length (now (buf .entry))) (now («data» .entry))) (now (buf .entry))) ⌝ }
+    {
+        let done = self.write_data_counted(buf, data, ALL);
+        if done.number != DONE {
+            return Wrote {
+                number: done.number,
+                writer: self,
+            };
+        }
+        Wrote {
+            number: DONE,
+            writer: self.with_data(done.stores),
+        }
+    }
+}
