@@ -7,7 +7,7 @@ ghost use Rattle.byteorder.specs.Big.{bigAt};
 ghost use Rattle.pcm.specs.Sample.{low24, bytes24, signed24, number24};
 
 // Bytes of a packed sample.
-pub(crate) const SAMPLE_SIZE: usize = 3;
+pub const SAMPLE_SIZE: usize = 3;
 
 // Adding 2^32 keeps x mod 2^24 and leaves no sign.
 pub(crate) fn low_bits(x: i32) -> u32

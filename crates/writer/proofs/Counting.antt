@@ -12,6 +12,8 @@ use Rattle.byteorder.specs.Splice.{splice, hasRoom, storeCount, storeFirst}
 use Rattle.byteorder.proofs.Laws.{splice-nil}
 use Rattle.byteorder.proofs.Budget.{all-done}
 use Rattle.writer.specs.Outcome.{Outcome, stores, unchanged, unlessRefused, bufferAfter, cut, counted, bufferCut}
+use Rattle.writer.specs.Record.{asFinished}
+use Rattle.writer.specs.Finish.{finishNumber, finalSize, finishCall}
 use Rattle.writer.specs.Claims.{CutWhole}
 use Rattle.writer.specs.declared.CAFWriter.{CAFWriter}
 use Rattle.writer.specs.declared.Counted.{Counted}
@@ -52,3 +54,9 @@ count-most n many p room = go (hasRoom p (min n many) room)
     go : (b : Bool) → cond b (min n many) 0 ≤ many
     go true = omega arith
     go false = omega arith
+
+-- a finish of a record that is not finished
+pub finish-going : (w : CAFWriter) (room : ℕ) → w .finished ≡ false
+    → finishCall w room ≡ unlessRefused (finishNumber w room) w (stores (w .«size_position») (finalSize w) (asFinished w))
+unfolding finishCall
+finish-going w room e = ap (λ (b : Bool). unlessRefused (finishNumber w room) w (cond b (unchanged done w) (stores (w .«size_position») (finalSize w) (asFinished w)))) e

@@ -9,9 +9,10 @@ use lib.Dec.{eqb, lit<}
 use lib.ListN.{length}
 use borrow.Author.Tests.{eqb-true}
 use Rattle.answers.specs.Numbers.{done}
-use Rattle.writer.specs.Record.{withData}
+use Rattle.writer.specs.Record.{withData, asFinished}
 use Rattle.writer.specs.Outcome.{Outcome, stores, unchanged, unlessRefused, answer, bufferAfter, counted, bufferCut}
 use Rattle.writer.specs.Data.{dataNumber, dataCall}
+use Rattle.writer.specs.Finish.{finishNumber, finalSize, finishCall}
 use Rattle.writer.specs.Claims.{Unchanged}
 use Rattle.writer.specs.declared.CAFWriter.{CAFWriter}
 use Rattle.writer.specs.declared.Wrote.{Wrote}
@@ -85,3 +86,55 @@ module _ (w : CAFWriter) (room : ℕ) (bs : List ℕ) (fits : room ≤ all) wher
 
       pub data-answer : (x : CAFWriter) → x ≡ withData w (r .stores) → _≡_ {A = Wrote} (record { number = done; writer = x }) (answer (dataCall w room bs))
       data-answer x p = rw (p, many, data-done is-done)
+
+-- the finish call. On a finished record it changes nothing, and so does marking that record as finished
+finished-is : (w : CAFWriter) → w .finished ≡ true → asFinished w ≡ w
+finished-is w e =
+    ap
+    (λ (b : Bool).
+    record {
+      format = w .format;
+      endianness = w .endianness;
+      layout = w .layout;
+      labels = w .labels;
+      «label_count» = w .«label_count»;
+      «has_header» = w .«has_header»;
+      «size_position» = w .«size_position»;
+      «data_start» = w .«data_start»;
+      «file_len» = w .«file_len»;
+      «data_count» = w .«data_count»;
+      finished = b;
+    })
+    (sym e)
+
+module _ (w : CAFWriter) (room : ℕ) where
+  closing : Bool → Outcome
+  closing b = cond b (unchanged done w) (stores (w .«size_position») (finalSize w) (asFinished w))
+
+  closing-most : (b : Bool) → length (closing b .bytes) ≤ 8
+  unfolding closing
+  closing-most true = omega arith
+  closing-most false = omega arith
+
+  closing-answer : (b : Bool) → w .finished ≡ b → _≡_ {A = Wrote} (record { number = done; writer = asFinished w }) (answer (closing b))
+  unfolding closing
+  closing-answer true e = rw (finished-is w e)
+  closing-answer false e = refl
+
+  finish-most : length (finishCall w room .bytes) ≤ all
+  unfolding finishCall closing
+  finish-most = stored-most (finishNumber w room) w (closing (w .finished)) all (λ e. omega (arith, closing-most (w .finished)))
+
+  pub finish-buffer : (buf buf' : List ℕ) → buf' ≡ bufferCut all (finishCall w room) buf → buf' ≡ bufferAfter (finishCall w room) buf
+  finish-buffer buf buf' e = whole-buffer (finishCall w room) finish-most buf buf' e
+
+  finish-done : finishCall w room .number ≡ done → finishCall w room ≡ closing (w .finished)
+  unfolding finishCall closing
+  finish-done h = accepted (finishNumber w room) w (closing (w .finished)) (accepted-number (finishNumber w room) w (closing (w .finished)) h)
+
+  module _ (r : Counted) (given : r ≡ counted all (finishCall w room) w) where
+    pub finish-refused : (r .number ≡ done → ⊥) → _≡_ {A = Wrote} (record { number = r .number; writer = w }) (answer (finishCall w room))
+    finish-refused h = whole-refused w (finishCall w room) r given (refused-unchanged .finish w room) h
+
+    pub finish-answer : r .number ≡ done → (x : CAFWriter) → x ≡ asFinished w → _≡_ {A = Wrote} (record { number = done; writer = x }) (answer (finishCall w room))
+    finish-answer e x p = rw (p, finish-done (sym (whole-number w (finishCall w room) r given) ∙ e)) (closing-answer (w .finished) refl)

@@ -12,10 +12,12 @@ use answers::FINISHED;
 use answers::NO_HEADER;
 use answers::NO_ROOM;
 use byteorder::store::store;
+use pcm::packing::pack_first;
+use pcm::sample::SAMPLE_SIZE;
 ghost use mathlib.Core.Path.{_≡_};
 ghost use lib.ListN.{length};
 ghost use Rattle.writer.specs.Outcome.{answer, bufferAfter, counted, bufferCut};
-ghost use Rattle.writer.specs.Data.{dataNumber, dataCall};
+ghost use Rattle.writer.specs.Data.{dataNumber, dataCall, samplesCall};
 
 impl CAFWriter {
     // The number of a call of n bytes.
@@ -58,6 +60,41 @@ impl CAFWriter {
         ensures { λ r. ⌜ (r ≡ answer (dataCall self (length (now (buf .entry))) (now («data» .entry)))) × (now (buf .exit) ≡ bufferAfter (dataCall self (length (now (buf .entry))) (now («data» .entry))) (now (buf .entry))) ⌝ }
     {
         let done = self.write_data_counted(buf, data, ALL);
+        if done.number != DONE {
+            return Wrote {
+                number: done.number,
+                writer: self,
+            };
+        }
+        Wrote {
+            number: DONE,
+            writer: self.with_data(done.stores),
+        }
+    }
+
+    // The bytes of the samples, packed in the record's byte order. n counts bytes.
+    pub fn write_pcm_24bit_as_packed_counted(
+        self,
+        buf: &mut [u8],
+        samples: &[i32],
+        n: usize,
+    ) -> Counted
+        ensures { λ r. ⌜ (r ≡ counted n (samplesCall self (length (now (buf .entry))) (now (samples .entry))) self) × (now (buf .exit) ≡ bufferCut n (samplesCall self (length (now (buf .entry))) (now (samples .entry))) (now (buf .entry))) ⌝ }
+    {
+        let number = self.data_number(buf.len(), SAMPLE_SIZE * samples.len());
+        let len = self.file_len;
+        if number != DONE {
+            return without_stores(number, len);
+        }
+        let endianness = self.endianness;
+        let stores = pack_first(samples, endianness, buf, len, n);
+        with_stores(len, len, stores)
+    }
+
+    pub fn write_pcm_24bit_as_packed(self, buf: &mut [u8], samples: &[i32]) -> Wrote
+        ensures { λ r. ⌜ (r ≡ answer (samplesCall self (length (now (buf .entry))) (now (samples .entry)))) × (now (buf .exit) ≡ bufferAfter (samplesCall self (length (now (buf .entry))) (now (samples .entry))) (now (buf .entry))) ⌝ }
+    {
+        let done = self.write_pcm_24bit_as_packed_counted(buf, samples, ALL);
         if done.number != DONE {
             return Wrote {
                 number: done.number,

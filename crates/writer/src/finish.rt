@@ -1,10 +1,23 @@
 // The finish call: the size of the data goes into its field, most significant byte first.
 use crate::CAFWriter;
+use crate::Counted;
+use crate::Wrote;
+use crate::budget::ALL;
+use crate::budget::with_stores;
+use crate::budget::without_stores;
 use answers::BAD_WRITER;
 use answers::DONE;
 use answers::NO_HEADER;
+use byteorder::bytes::u64_bytes;
+use byteorder::store::store;
 ghost use mathlib.Core.Path.{_≡_};
-ghost use Rattle.writer.specs.Finish.{finishNumber};
+ghost use Prim.Native.Nat.{_≤_};
+ghost use lib.ListN.{length};
+ghost use Rattle.answers.specs.Numbers.{fileMax};
+ghost use Rattle.writer.specs.Outcome.{answer, bufferAfter, counted, bufferCut};
+ghost use Rattle.writer.specs.Finish.{finishNumber, finalSize, finishCall};
+
+const EDIT_COUNT: usize = 4;
 
 impl CAFWriter {
     // A second finish is no fault.
@@ -21,5 +34,47 @@ impl CAFWriter {
             return NO_HEADER;
         }
         DONE
+    }
+
+    // The edit count and the payload, which is what stands from the data start to the end of the file.
+    fn final_size(self) -> [u8; 8]
+        requires { ⌜ (self .«data_start» ≤ self .«file_len») × (self .«file_len» ≤ fileMax) ⌝ }
+        ensures { λ r. ⌜ r ≡ finalSize self ⌝ }
+    {
+        u64_bytes((self.file_len - self.data_start + EDIT_COUNT) as u64)
+    }
+
+    // Does the first n stores of the call.
+    pub fn finish_counted(self, buf: &mut [u8], n: usize) -> Counted
+        ensures { λ r. ⌜ (r ≡ counted n (finishCall self (length (now (buf .entry)))) self) × (now (buf .exit) ≡ bufferCut n (finishCall self (length (now (buf .entry)))) (now (buf .entry))) ⌝ }
+    {
+        let number = self.finish_number(buf.len());
+        let len = self.file_len;
+        if number != DONE {
+            return without_stores(number, len);
+        }
+        if self.finished {
+            return without_stores(DONE, len);
+        }
+        let at = self.size_position;
+        let size = self.final_size();
+        let stores = store(buf, at, &size, n);
+        with_stores(len, at, stores)
+    }
+
+    pub fn finish(self, buf: &mut [u8]) -> Wrote
+        ensures { λ r. ⌜ (r ≡ answer (finishCall self (length (now (buf .entry))))) × (now (buf .exit) ≡ bufferAfter (finishCall self (length (now (buf .entry)))) (now (buf .entry))) ⌝ }
+    {
+        let done = self.finish_counted(buf, ALL);
+        if done.number != DONE {
+            return Wrote {
+                number: done.number,
+                writer: self,
+            };
+        }
+        Wrote {
+            number: DONE,
+            writer: self.as_finished(),
+        }
     }
 }
