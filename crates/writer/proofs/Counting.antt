@@ -1,17 +1,17 @@
 -- Counted calls: what a budget leaves of a call, and that one that is large enough leaves all of it.
-use mathlib.Core.Path.{_≡_, refl, sym, _∙_, ap}
+use mathlib.Core.Path.{_≡_, sym, _∙_, ap}
 use mathlib.Core.Bool.{Bool, true, false, cond}
-use mathlib.Core.List.{List, []}
+use mathlib.Core.List.{List}
 use Prim.Native.Nat.{ℕ, _+_, _≤_, min, max}
 use native.Mathlib.Nat.{min-zero, max-zero}
 use native.Mathlib.Omega.{arith}
-use lib.ListN.{length, take, length-take}
+use lib.ListN.{length, length-take}
 use lib.Seq.{take-all, take-nil}
 use Rattle.answers.specs.Numbers.{done}
-use Rattle.byteorder.specs.Splice.{splice, hasRoom, storeCount, storeFirst}
+use Rattle.byteorder.specs.Splice.{hasRoom, storeCount, storeFirst}
 use Rattle.byteorder.proofs.Laws.{splice-nil}
 use Rattle.byteorder.proofs.Budget.{all-done}
-use Rattle.writer.specs.Outcome.{Outcome, stores, unchanged, unlessRefused, bufferAfter, cut, counted, bufferCut}
+use Rattle.writer.specs.Outcome.{Outcome, stores, unchanged, unlessRefused, counted, bufferCut}
 use Rattle.writer.specs.Record.{asFinished}
 use Rattle.writer.specs.Finish.{finishNumber, finalSize, finishCall}
 use Rattle.writer.specs.Claims.{CutWhole}

@@ -1,16 +1,17 @@
 -- The whole calls, from the answers of their counted forms with a budget that no call exceeds.
 use mathlib.Core.Path.{_≡_, refl, sym, _∙_, ap}
 use mathlib.Core.Bool.{Bool, true, false, cond}
-use mathlib.Core.List.{List, []}
+use mathlib.Core.List.{List}
 use Prim.Native.Nat.{ℕ, _+_, _^_, _≤_, _<_}
 use native.Mathlib.Nat.{min-eq-right}
 use native.Mathlib.Omega.{arith}
-use lib.Dec.{eqb, lit<}
+use lib.Dec.{eqb}
 use lib.ListN.{length}
 use borrow.Author.Tests.{eqb-true}
 use Rattle.answers.specs.Numbers.{done}
-use Rattle.writer.specs.Record.{withData, asFinished}
+use Rattle.writer.specs.Record.{labelsOf, withHeader, withData, asFinished}
 use Rattle.writer.specs.Outcome.{Outcome, stores, unchanged, unlessRefused, answer, bufferAfter, counted, bufferCut}
+use Rattle.writer.specs.Header.{headerOf, headerNumber, headerCall}
 use Rattle.writer.specs.Data.{dataNumber, dataCall}
 use Rattle.writer.specs.Finish.{finishNumber, finalSize, finishCall}
 use Rattle.writer.specs.Claims.{Unchanged}
@@ -19,7 +20,8 @@ use Rattle.writer.specs.declared.Wrote.{Wrote}
 use Rattle.writer.specs.declared.Counted.{Counted}
 use Rattle.writer.proofs.Tests.{accepted-number, accepted}
 use Rattle.writer.proofs.Facts.{sound-alone, headed}
-use Rattle.writer.proofs.Kept.{data-allowed}
+use Rattle.writer.proofs.Kept.{header-allowed, data-allowed}
+use Rattle.writer.proofs.Heads.{header-start, start-least}
 use Rattle.writer.proofs.Refused.{refused-unchanged}
 use Rattle.writer.proofs.Counting.{cut-whole}
 
@@ -86,6 +88,45 @@ module _ (w : CAFWriter) (room : ℕ) (bs : List ℕ) (fits : room ≤ all) wher
 
       pub data-answer : (x : CAFWriter) → x ≡ withData w (r .stores) → _≡_ {A = Wrote} (record { number = done; writer = x }) (answer (dataCall w room bs))
       data-answer x p = rw (p, many, data-done is-done)
+
+-- the header call
+module _ (w : CAFWriter) (room : ℕ) (fits : room ≤ all) where
+  writing : Outcome
+  writing = stores 0 (headerOf w) (withHeader w (length (headerOf w)))
+
+  header-most : length (headerCall w room .bytes) ≤ all
+  unfolding headerCall writing
+  header-most = stored-most (headerNumber w room) w writing all (λ e. let h = header-allowed w room e in omega arith)
+
+  header-number : headerCall w room .number ≡ done → headerNumber w room ≡ done
+  unfolding headerCall writing
+  header-number h = accepted-number (headerNumber w room) w writing h
+
+  header-done : headerCall w room .number ≡ done → headerCall w room ≡ stores 0 (headerOf w) (withHeader w (length (headerOf w)))
+  unfolding headerCall writing
+  header-done h = accepted (headerNumber w room) w writing (header-number h)
+
+  pub header-buffer : (buf buf' : List ℕ) → buf' ≡ bufferCut all (headerCall w room) buf → buf' ≡ bufferAfter (headerCall w room) buf
+  header-buffer buf buf' e = whole-buffer (headerCall w room) header-most buf buf' e
+
+  module _ (r : Counted) (given : r ≡ counted all (headerCall w room) w) where
+    pub header-refused : (r .number ≡ done → ⊥) → _≡_ {A = Wrote} (record { number = r .number; writer = w }) (answer (headerCall w room))
+    header-refused h = whole-refused w (headerCall w room) r given (refused-unchanged .header w room) h
+
+    module _ (e : r .number ≡ done) where
+      written : headerCall w room .number ≡ done
+      written = sym (whole-number w (headerCall w room) r given) ∙ e
+
+      length-is : r .stores ≡ length (headerOf w)
+      length-is = whole-stores w (headerCall w room) r given header-most ∙ ap (λ (o : Outcome). length (o .bytes)) (header-done written)
+
+      pub header-least : 12 ≤ r .stores
+      header-least =
+          let h = header-allowed w room (header-number written) in
+          omega (arith, length-is, header-start w (h .present), start-least (w .layout) (labelsOf w))
+
+      pub header-answer : (x : CAFWriter) → x ≡ withHeader w (r .stores) → _≡_ {A = Wrote} (record { number = done; writer = x }) (answer (headerCall w room))
+      header-answer x p = rw (p, length-is, header-done written)
 
 -- the finish call. On a finished record it changes nothing, and so does marking that record as finished
 finished-is : (w : CAFWriter) → w .finished ≡ true → asFinished w ≡ w

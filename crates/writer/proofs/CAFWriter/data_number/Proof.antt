@@ -4,48 +4,37 @@ use Rattle.answers.specs.Numbers.{fileMax}
 use borrow.Author.Tests.{lt-ltb, le-ltb, not-false}
 use native.Mathlib.Omega.{arith}
 use Prim.Native.Nat.{_+_, _≤_, _<_}
-use mathlib.Core.Path.{_≡_, sym, _∙_}
+use mathlib.Core.Path.{sym, _∙_}
 use borrow.Author.Needs.{needs}
 use Rattle.writer.proofs.CAFWriter.data_number.Statement.{statement}
 use Rattle.writer.proofs.CAFWriter.data_number.Tie as tie
-use Rattle.writer.proofs.CAFWriter.data_number.Reads as reads
-use Rattle.writer.proofs.CAFWriter.data_number.Lts as lts
-use Rattle.writer.proofs.CAFWriter.is_sound.Reads as is-sound-reads
 
--- src/data.rt:25:13
 is-sound-requires : tie.Need-is-sound-requires
 is-sound-requires c κs = search needs
 
--- src/data.rt:26:13
 returns : tie.Need-returns
 unfolding dataNumber
 returns c = rw (← c .before .is-sound .ensures, c .if1 .taken)
 
--- src/data.rt:29:13
 returns-2 : tie.Need-returns-2
 unfolding dataNumber
 returns-2 c = rw (← c .before .before .is-sound .ensures, c .before .if1 .left, c .if2 .taken)
 
--- src/data.rt:32:13
 returns-3 : tie.Need-returns-3
 unfolding dataNumber
 returns-3 c = rw (← c .before .before .before .before .is-sound .ensures, c .before .before .before .if1 .left, c .before .before .if2 .left, c .if3 .taken)
 
--- src/data.rt:35:12
 sub-if4 : tie.Need-sub-if4
 sub-if4 c = in-room _ _ (sym (c .before .before .before .before .before .is-sound .ensures) ∙ not-false (c .before .before .before .before .before .is-sound .result) (c .before .before .before .before .if1 .left))
 
--- src/data.rt:36:13
 returns-4 : tie.Need-returns-4
 unfolding dataNumber
 returns-4 c = let a = c .before .before .before .before .before .before .before .args in let e : a .room < a .self .«file_len» + a .n = omega arith in
     rw (← c .before .before .before .before .before .before .is-sound .ensures, c .before .before .before .before .before .if1 .left, c .before .before .before .before .if2 .left, c .before .before .if3 .left, lt-ltb _ _ e)
 
--- src/data.rt:38:12
 sub-if5 : tie.Need-sub-if5
 sub-if5 c = sound-alone _ _ (sym (c .before .before .before .before .before .before .before .is-sound .ensures) ∙ not-false (c .before .before .before .before .before .before .before .is-sound .result) (c .before .before .before .before .before .before .if1 .left)) .in-file
 
--- src/data.rt:39:13
 returns-5 : tie.Need-returns-5
 unfolding dataNumber
 returns-5 c = let a = c .before .before .before .before .before .before .before .before .before .args in let i = in-room (a .self) (a .room) (sym (c .before .before .before .before .before .before .before .before .is-sound .ensures) ∙ not-false (c .before .before .before .before .before .before .before .before .is-sound .result) (c .before .before .before .before .before .before .before .if1 .left)) in
@@ -53,7 +42,6 @@ returns-5 c = let a = c .before .before .before .before .before .before .before 
     let f : fileMax < a .self .«file_len» + a .n = omega arith in
     rw (← c .before .before .before .before .before .before .before .before .is-sound .ensures, c .before .before .before .before .before .before .before .if1 .left, c .before .before .before .before .before .before .if2 .left, c .before .before .before .before .if3 .left, le-ltb _ _ e, lt-ltb _ _ f)
 
--- src/data.rt:22:5
 returns-6 : tie.Need-returns-6
 unfolding dataNumber
 returns-6 c = let a = c .before .before .before .before .before .before .before .before .before .args in let s = sym (c .before .before .before .before .before .before .before .before .is-sound .ensures) ∙ not-false (c .before .before .before .before .before .before .before .before .is-sound .result) (c .before .before .before .before .before .before .before .if1 .left) in

@@ -3,20 +3,13 @@ use lib.ListN.{length}
 use borrow.Author.Needs.{needs}
 use Rattle.writer.proofs.CAFWriter.finish.Statement.{statement}
 use Rattle.writer.proofs.CAFWriter.finish.Tie as tie
-use Rattle.writer.proofs.CAFWriter.finish.Reads as reads
-use Rattle.writer.proofs.CAFWriter.finish.Lts as lts
-use Rattle.writer.proofs.CAFWriter.as_finished.Reads as as-finished-reads
-use Rattle.writer.proofs.CAFWriter.finish_counted.Reads as finish-counted-reads
 
--- src/finish.rt:68:13
 finish-counted-requires : tie.Need-finish-counted-requires
 finish-counted-requires c κs = search needs
 
--- src/finish.rt:70:13
 same-length : tie.Need-same-length
 same-length c = search needs
 
--- src/finish.rt:70:13
 returns : tie.Need-returns
 returns c = let a = c .before .before .before .before .before .before .before .args in
     let k = c .before .before .before .before .finish-counted in (
@@ -24,15 +17,12 @@ returns c = let a = c .before .before .before .before .before .before .before .a
       finish-buffer (a .self) (length (a .buf .now)) (a .buf .now) _ (k .ensures .1),
     )
 
--- src/finish.rt:77:21
 as-finished-requires : tie.Need-as-finished-requires
 as-finished-requires c κs = search needs
 
--- src/finish.rt:65:5
 same-length-2 : tie.Need-same-length-2
 same-length-2 c = search needs
 
--- src/finish.rt:65:5
 returns-2 : tie.Need-returns-2
 returns-2 c = let a = c .before .before .before .before .before .before .before .before .args in
     let k = c .before .before .before .before .before .finish-counted in (

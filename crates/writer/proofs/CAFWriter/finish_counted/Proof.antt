@@ -3,7 +3,6 @@ use mathlib.Core.List.{List}
 use Rattle.writer.proofs.Counting.{counted-unchanged, counted-refused, counted-stored, count-most, finish-going}
 use Rattle.writer.proofs.Kept.{finish-sound, finish-header}
 use Rattle.writer.proofs.Facts.{sound-alone, in-room, headed}
-use Rattle.writer.proofs.Tests.{accepted}
 use Rattle.writer.specs.Finish.{finishNumber, finalSize, finishCall}
 use Rattle.writer.specs.Outcome.{stores, unchanged}
 use Rattle.writer.specs.Record.{asFinished}
@@ -16,56 +15,40 @@ use mathlib.Core.Path.{_≡_, sym, _∙_, ap}
 use borrow.Author.Needs.{needs}
 use Rattle.writer.proofs.CAFWriter.finish_counted.Statement.{statement}
 use Rattle.writer.proofs.CAFWriter.finish_counted.Tie as tie
-use Rattle.writer.proofs.CAFWriter.finish_counted.Reads as reads
-use Rattle.writer.proofs.CAFWriter.finish_counted.Lts as lts
-use Rattle.byteorder.proofs.store.store.Reads as store-reads
-use Rattle.writer.proofs.CAFWriter.final_size.Reads as final-size-reads
-use Rattle.writer.proofs.CAFWriter.finish_number.Reads as finish-number-reads
-use Rattle.writer.proofs.budget.with_stores.Reads as with-stores-reads
-use Rattle.writer.proofs.budget.without_stores.Reads as without-stores-reads
 
--- src/finish.rt:51:13
 finish-number-requires : tie.Need-finish-number-requires
 finish-number-requires c κs = search needs
 
--- src/finish.rt:54:13
 without-stores-requires : tie.Need-without-stores-requires
 without-stores-requires c κs = search needs
 
--- src/finish.rt:54:13
 returns : tie.Need-returns
 unfolding finishCall
 returns c = let a = c .before .before .before .before .args in let w = a .self in
     let f = counted-refused (a .n) w (a .buf .now) (c .before .before .finish-number .result) (cond (w .finished) (unchanged done w) (stores (w .«size_position») (finalSize w) (asFinished w))) (c .before .if1 .taken) in
     rw (← c .before .before .finish-number .ensures) (c .without-stores .ensures ∙ f .0, f .1)
 
--- src/finish.rt:57:13
 without-stores-requires-2 : tie.Need-without-stores-requires-2
 without-stores-requires-2 c κs = search needs
 
--- src/finish.rt:57:13
 returns-2 : tie.Need-returns-2
 unfolding finishCall
 returns-2 c = let a = c .before .before .before .before .before .args in let w = a .self in
     let f = counted-unchanged (a .n) w (a .buf .now) done in
     rw (← c .before .before .before .finish-number .ensures, c .before .before .if1 .left, c .before .if2 .taken) (c .without-stores2 .ensures ∙ f .0, f .1)
 
--- src/finish.rt:60:20
 final-size-requires : tie.Need-final-size-requires
 final-size-requires c κs = let a = c .before .before .before .before .args in let w = a .self in
     let z : finishNumber w (length (a .buf .now)) ≡ 0 = sym (c .before .before .finish-number .ensures) ∙ c .before .if1 .left in
     let s = sound-alone w (length (a .buf .now)) (finish-sound w (length (a .buf .now)) z) in
     (headed w (finish-header w (length (a .buf .now)) z (c .if2 .left)) (s .places) .to, s .in-file)
 
--- src/finish.rt:61:37
 slice-aggregate-store : tie.Need-slice-aggregate-store
 slice-aggregate-store c = search needs
 
--- src/finish.rt:61:13
 store-requires : tie.Need-store-requires
 store-requires c κs = search needs
 
--- src/finish.rt:62:9
 with-stores-requires : tie.Need-with-stores-requires
 with-stores-requires c κs = let a = c .before .before .before .before .before .before .before .before .before .before .args in let w = a .self in let room = length (a .buf .now) in
     let z : finishNumber w room ≡ 0 = sym (c .before .before .before .before .before .before .before .before .finish-number .ensures) ∙ c .before .before .before .before .before .before .before .if1 .left in
@@ -74,11 +57,9 @@ with-stores-requires c κs = let a = c .before .before .before .before .before .
     let k : c .before .before .store .result ≡ storeCount (a .n) 8 (w .«size_position») room = c .before .before .store .ensures .0 ∙ ap (λ (l : List ℕ). storeCount (a .n) (length l) (w .«size_position») room) (c .before .before .before .before .before .final-size .ensures) in
     omega (arith, p .apart, p .to, s .in-file, k, count-most (a .n) 8 (w .«size_position») room)
 
--- src/finish.rt:48:5
 same-length : tie.Need-same-length
 same-length c = search needs
 
--- src/finish.rt:48:5
 returns-3 : tie.Need-returns-3
 returns-3 c = let a = c .before .before .before .before .before .before .before .before .before .before .before .args in let w = a .self in let room = length (a .buf .now) in
     let z : finishNumber w room ≡ 0 = sym (c .before .before .before .before .before .before .before .before .before .finish-number .ensures) ∙ c .before .before .before .before .before .before .before .before .if1 .left in

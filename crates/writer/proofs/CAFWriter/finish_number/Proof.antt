@@ -2,30 +2,22 @@ use Rattle.writer.specs.Finish.{finishNumber}
 use borrow.Author.Needs.{needs}
 use Rattle.writer.proofs.CAFWriter.finish_number.Statement.{statement}
 use Rattle.writer.proofs.CAFWriter.finish_number.Tie as tie
-use Rattle.writer.proofs.CAFWriter.finish_number.Reads as reads
-use Rattle.writer.proofs.CAFWriter.finish_number.Lts as lts
-use Rattle.writer.proofs.CAFWriter.is_sound.Reads as is-sound-reads
 
--- src/finish.rt:14:13
 is-sound-requires : tie.Need-is-sound-requires
 is-sound-requires c κs = search needs
 
--- src/finish.rt:15:13
 returns : tie.Need-returns
 unfolding finishNumber
 returns c = rw (← c .before .is-sound .ensures, c .if1 .taken)
 
--- src/finish.rt:18:13
 returns-2 : tie.Need-returns-2
 unfolding finishNumber
 returns-2 c = rw (← c .before .before .is-sound .ensures, c .before .if1 .left, c .if2 .taken)
 
--- src/finish.rt:21:13
 returns-3 : tie.Need-returns-3
 unfolding finishNumber
 returns-3 c = rw (← c .before .before .before .before .is-sound .ensures, c .before .before .before .if1 .left, c .before .before .if2 .left, c .if3 .taken)
 
--- src/finish.rt:11:5
 returns-4 : tie.Need-returns-4
 unfolding finishNumber
 returns-4 c = rw (← c .before .before .before .before .is-sound .ensures, c .before .before .before .if1 .left, c .before .before .if2 .left, c .if3 .left)

@@ -3,20 +3,14 @@ use borrow.Author.Tests.{le-leb, lt-leb}
 use borrow.Author.Needs.{needs}
 use Rattle.writer.proofs.CAFWriter.is_sound.Statement.{statement}
 use Rattle.writer.proofs.CAFWriter.is_sound.Tie as tie
-use Rattle.writer.proofs.CAFWriter.is_sound.Reads as reads
-use Rattle.writer.proofs.CAFWriter.is_sound.Lts as lts
-use Rattle.writer.proofs.CAFWriter.is_sound_alone.Reads as is-sound-alone-reads
 
--- src/sound.rt:149:13
 returns : tie.Need-returns
 unfolding sound
 returns c = rw (lt-leb _ _ (c .if1 .taken))
 
--- src/sound.rt:151:9
 is-sound-alone-requires : tie.Need-is-sound-alone-requires
 is-sound-alone-requires c κs = search needs
 
--- src/sound.rt:145:5
 returns-2 : tie.Need-returns-2
 unfolding sound
 returns-2 c = rw (le-leb _ _ (c .before .if1 .left)) (c .is-sound-alone .ensures)

@@ -3,40 +3,28 @@ use borrow.Author.Tests.{le-leb, lt-leb, not-true, not-false}
 use borrow.Author.Needs.{needs}
 use Rattle.writer.proofs.CAFWriter.is_sound_alone.Statement.{statement}
 use Rattle.writer.proofs.CAFWriter.is_sound_alone.Tie as tie
-use Rattle.writer.proofs.CAFWriter.is_sound_alone.Reads as reads
-use Rattle.writer.proofs.CAFWriter.is_sound_alone.Lts as lts
-use Rattle.writer.proofs.sound.format_sound.Reads as format-sound-reads
-use Rattle.writer.proofs.sound.layout_sound.Reads as layout-sound-reads
-use Rattle.writer.proofs.sound.places_sound.Reads as places-sound-reads
 
--- src/sound.rt:133:13
 returns : tie.Need-returns
 unfolding soundAlone
 returns c = rw (lt-leb _ _ (c .if1 .taken))
 
--- src/sound.rt:135:13
 places-sound-requires : tie.Need-places-sound-requires
 places-sound-requires c κs = search needs
 
--- src/sound.rt:136:13
 returns-2 : tie.Need-returns-2
 unfolding soundAlone
 returns-2 c = rw (le-leb _ _ (c .before .before .if1 .left), ← c .before .places-sound .ensures, not-true (c .before .places-sound .result) (c .if2 .taken))
 
--- src/sound.rt:138:13
 format-sound-requires : tie.Need-format-sound-requires
 format-sound-requires c κs = search needs
 
--- src/sound.rt:139:13
 returns-3 : tie.Need-returns-3
 unfolding soundAlone
 returns-3 c = rw (le-leb _ _ (c .before .before .before .before .if1 .left), ← c .before .before .before .places-sound .ensures, not-false (c .before .before .before .places-sound .result) (c .before .before .if2 .left), ← c .before .format-sound .ensures, not-true (c .before .format-sound .result) (c .if3 .taken))
 
--- src/sound.rt:141:9
 layout-sound-requires : tie.Need-layout-sound-requires
 layout-sound-requires c κs = search needs
 
--- src/sound.rt:129:5
 returns-4 : tie.Need-returns-4
 unfolding soundAlone
 returns-4 c = rw (le-leb _ _ (c .before .before .before .before .before .if1 .left), ← c .before .before .before .before .places-sound .ensures, not-false (c .before .before .before .before .places-sound .result) (c .before .before .before .if2 .left), ← c .before .before .format-sound .ensures, not-false (c .before .before .format-sound .result) (c .before .if3 .left)) (c .layout-sound .ensures)

@@ -5,20 +5,13 @@ use Prim.Native.Nat.{_≤_}
 use borrow.Author.Needs.{needs}
 use Rattle.writer.proofs.CAFWriter.write_data.Statement.{statement}
 use Rattle.writer.proofs.CAFWriter.write_data.Tie as tie
-use Rattle.writer.proofs.CAFWriter.write_data.Reads as reads
-use Rattle.writer.proofs.CAFWriter.write_data.Lts as lts
-use Rattle.writer.proofs.CAFWriter.with_data.Reads as with-data-reads
-use Rattle.writer.proofs.CAFWriter.write_data_counted.Reads as write-data-counted-reads
 
--- src/data.rt:60:13
 write-data-counted-requires : tie.Need-write-data-counted-requires
 write-data-counted-requires c κs = search needs
 
--- src/data.rt:62:13
 same-length : tie.Need-same-length
 same-length c = search needs
 
--- src/data.rt:62:13
 returns : tie.Need-returns
 returns c = let a = c .before .before .before .before .before .before .before .before .args in
     let k = c .before .before .before .before .write-data-counted in
@@ -27,18 +20,15 @@ returns c = let a = c .before .before .before .before .before .before .before .b
       data-buffer (a .self) (length (a .buf .now)) (a .«data» .now) f (a .buf .now) _ (k .ensures .1),
     )
 
--- src/data.rt:69:21
 with-data-requires : tie.Need-with-data-requires
 with-data-requires c κs = let a = c .before .before .before .before .before .before .before .before .args in
     let k = c .before .before .before .before .write-data-counted in
     let f : length (a .buf .now) ≤ all = omega arith in
     data-fits (a .self) (length (a .buf .now)) (a .«data» .now) f (k .result) (k .ensures .0) (c .if1 .left)
 
--- src/data.rt:57:5
 same-length-2 : tie.Need-same-length-2
 same-length-2 c = search needs
 
--- src/data.rt:57:5
 returns-2 : tie.Need-returns-2
 returns-2 c = let a = c .before .before .before .before .before .before .before .before .before .args in
     let k = c .before .before .before .before .before .write-data-counted in

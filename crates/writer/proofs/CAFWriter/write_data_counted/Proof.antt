@@ -6,47 +6,34 @@ use Rattle.writer.specs.Outcome.{stores}
 use Rattle.writer.specs.Record.{withData}
 use lib.ListN.{length}
 use native.Mathlib.Omega.{arith}
-use mathlib.Core.Path.{_≡_, sym, _∙_}
+use mathlib.Core.Path.{sym, _∙_}
 use borrow.Author.Needs.{needs}
 use Rattle.writer.proofs.CAFWriter.write_data_counted.Statement.{statement}
 use Rattle.writer.proofs.CAFWriter.write_data_counted.Tie as tie
-use Rattle.writer.proofs.CAFWriter.write_data_counted.Reads as reads
-use Rattle.writer.proofs.CAFWriter.write_data_counted.Lts as lts
-use Rattle.byteorder.proofs.store.store.Reads as store-reads
-use Rattle.writer.proofs.CAFWriter.data_number.Reads as data-number-reads
-use Rattle.writer.proofs.budget.with_stores.Reads as with-stores-reads
-use Rattle.writer.proofs.budget.without_stores.Reads as without-stores-reads
 
--- src/data.rt:48:13
 data-number-requires : tie.Need-data-number-requires
 data-number-requires c κs = search needs
 
--- src/data.rt:51:13
 without-stores-requires : tie.Need-without-stores-requires
 without-stores-requires c κs = search needs
 
--- src/data.rt:51:13
 returns : tie.Need-returns
 unfolding dataCall
 returns c = let a = c .before .before .before .before .before .args in
     let f = counted-refused (a .n) (a .self) (a .buf .now) (c .before .before .data-number .result) (stores (a .self .«file_len») (a .«data» .now) (withData (a .self) (length (a .«data» .now)))) (c .before .if1 .taken) in
     rw (← c .before .before .data-number .ensures) (c .without-stores .ensures ∙ f .0, f .1)
 
--- src/data.rt:53:13
 store-requires : tie.Need-store-requires
 store-requires c κs = search needs
 
--- src/data.rt:54:9
 with-stores-requires : tie.Need-with-stores-requires
 with-stores-requires c κs = let a = c .before .before .before .before .before .before .before .before .args in
     let h = data-allowed _ _ _ (sym (c .before .before .before .before .before .data-number .ensures) ∙ c .before .before .before .before .if1 .left) in
     omega (arith, c .before .before .store .ensures .0, count-most (a .n) (length (a .«data» .now)) (a .self .«file_len») (length (a .buf .now)))
 
--- src/data.rt:45:5
 same-length : tie.Need-same-length
 same-length c = search needs
 
--- src/data.rt:45:5
 returns-2 : tie.Need-returns-2
 unfolding dataCall
 returns-2 c = let a = c .before .before .before .before .before .before .before .before .before .args in

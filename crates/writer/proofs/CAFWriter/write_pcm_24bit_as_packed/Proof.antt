@@ -6,20 +6,13 @@ use native.Mathlib.Omega.{arith}
 use borrow.Author.Needs.{needs}
 use Rattle.writer.proofs.CAFWriter.write_pcm_24bit_as_packed.Statement.{statement}
 use Rattle.writer.proofs.CAFWriter.write_pcm_24bit_as_packed.Tie as tie
-use Rattle.writer.proofs.CAFWriter.write_pcm_24bit_as_packed.Reads as reads
-use Rattle.writer.proofs.CAFWriter.write_pcm_24bit_as_packed.Lts as lts
-use Rattle.writer.proofs.CAFWriter.with_data.Reads as with-data-reads
-use Rattle.writer.proofs.CAFWriter.write_pcm_24bit_as_packed_counted.Reads as write-pcm-24bit-as-packed-counted-reads
 
--- src/data.rt:97:13
 write-pcm-24bit-as-packed-counted-requires : tie.Need-write-pcm-24bit-as-packed-counted-requires
 write-pcm-24bit-as-packed-counted-requires c κs = search needs
 
--- src/data.rt:99:13
 same-length : tie.Need-same-length
 same-length c = search needs
 
--- src/data.rt:99:13
 returns : tie.Need-returns
 returns c = let a = c .before .before .before .before .before .before .before .args in
     let k = c .before .before .before .before .write-pcm-24bit-as-packed-counted in
@@ -29,18 +22,15 @@ returns c = let a = c .before .before .before .before .before .before .before .a
       data-buffer (a .self) (length (a .buf .now)) bytes f (a .buf .now) _ (k .ensures .1),
     )
 
--- src/data.rt:106:21
 with-data-requires : tie.Need-with-data-requires
 with-data-requires c κs = let a = c .before .before .before .before .before .before .before .args in
     let k = c .before .before .before .before .write-pcm-24bit-as-packed-counted in
     let f : length (a .buf .now) ≤ all = omega arith in
     data-fits (a .self) (length (a .buf .now)) (packed (a .self .endianness) (a .samples .now)) f (k .result) (k .ensures .0) (c .if1 .left)
 
--- src/data.rt:94:5
 same-length-2 : tie.Need-same-length-2
 same-length-2 c = search needs
 
--- src/data.rt:94:5
 returns-2 : tie.Need-returns-2
 returns-2 c = let a = c .before .before .before .before .before .before .before .before .args in
     let k = c .before .before .before .before .before .write-pcm-24bit-as-packed-counted in

@@ -8,31 +8,21 @@ use Rattle.pcm.specs.Packing.{packed}
 use Rattle.byteorder.specs.Splice.{storeCount}
 use lib.ListN.{length}
 use native.Mathlib.Omega.{arith}
-use Prim.Native.Nat.{ℕ, _*_}
-use mathlib.Core.Path.{_≡_, sym, _∙_, ap}
+use Prim.Native.Nat.{_*_}
+use mathlib.Core.Path.{_≡_, sym, _∙_}
 use borrow.Author.Needs.{needs}
 use Rattle.writer.proofs.CAFWriter.write_pcm_24bit_as_packed_counted.Statement.{statement}
 use Rattle.writer.proofs.CAFWriter.write_pcm_24bit_as_packed_counted.Tie as tie
-use Rattle.writer.proofs.CAFWriter.write_pcm_24bit_as_packed_counted.Reads as reads
-use Rattle.writer.proofs.CAFWriter.write_pcm_24bit_as_packed_counted.Lts as lts
-use Rattle.pcm.proofs.packing.pack_first.Reads as pack-first-reads
-use Rattle.writer.proofs.CAFWriter.data_number.Reads as data-number-reads
-use Rattle.writer.proofs.budget.with_stores.Reads as with-stores-reads
-use Rattle.writer.proofs.budget.without_stores.Reads as without-stores-reads
 
--- src/data.rt:84:50
 mul-data-number : tie.Need-mul-data-number
 mul-data-number c = search needs
 
--- src/data.rt:84:13
 data-number-requires : tie.Need-data-number-requires
 data-number-requires c κs = search needs
 
--- src/data.rt:87:13
 without-stores-requires : tie.Need-without-stores-requires
 without-stores-requires c κs = search needs
 
--- src/data.rt:87:13
 returns : tie.Need-returns
 unfolding dataCall
 returns c = let a = c .before .before .before .before .args in
@@ -40,21 +30,17 @@ returns c = let a = c .before .before .before .before .args in
     let f = counted-refused (a .n) (a .self) (a .buf .now) (c .before .before .data-number .result) (stores (a .self .«file_len») bytes (withData (a .self) (length bytes))) (c .before .if1 .taken) in
     rw (length-packed (a .self .endianness) (a .samples .now), ← c .before .before .data-number .ensures) (c .without-stores .ensures ∙ rw (← length-packed (a .self .endianness) (a .samples .now)) (f .0), rw (← length-packed (a .self .endianness) (a .samples .now)) (f .1))
 
--- src/data.rt:90:13
 pack-first-requires : tie.Need-pack-first-requires
 pack-first-requires c κs = search needs
 
--- src/data.rt:91:9
 with-stores-requires : tie.Need-with-stores-requires
 with-stores-requires c κs = let a = c .before .before .before .before .before .before .before .args in
     let h = data-allowed _ _ _ (sym (c .before .before .before .before .before .data-number .ensures) ∙ c .before .before .before .before .if1 .left) in
     omega (arith, c .before .before .pack-first .ensures .0, count-most (a .n) (3 * length (a .samples .now)) (a .self .«file_len») (length (a .buf .now)))
 
--- src/data.rt:76:5
 same-length : tie.Need-same-length
 same-length c = search needs
 
--- src/data.rt:76:5
 returns-2 : tie.Need-returns-2
 unfolding dataCall
 returns-2 c = let a = c .before .before .before .before .before .before .before .before .args in

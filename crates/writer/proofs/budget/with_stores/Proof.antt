@@ -4,18 +4,13 @@ use mathlib.Core.Path.{_≡_}
 use borrow.Author.Needs.{needs}
 use Rattle.writer.proofs.budget.with_stores.Statement.{statement}
 use Rattle.writer.proofs.budget.with_stores.Tie as tie
-use Rattle.writer.proofs.budget.with_stores.Reads as reads
-use Rattle.writer.proofs.budget.with_stores.Lts as lts
 
--- src/budget.rt:27:15
 add-end : tie.Need-add-end
 add-end c = search needs
 
--- src/budget.rt:23:1
 returns : tie.Need-returns
 returns c = let a = c .before .args in let e : max (a .len) (a .at + a .stores) ≡ a .at + a .stores = omega arith in rw e
 
--- src/budget.rt:23:1
 returns-2 : tie.Need-returns-2
 returns-2 c = let a = c .before .args in let e : max (a .len) (a .at + a .stores) ≡ a .len = omega arith in rw e
 

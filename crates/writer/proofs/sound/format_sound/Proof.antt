@@ -3,30 +3,20 @@ use borrow.Author.Tests.{not-true, not-false}
 use borrow.Author.Needs.{needs}
 use Rattle.writer.proofs.sound.format_sound.Statement.{statement}
 use Rattle.writer.proofs.sound.format_sound.Tie as tie
-use Rattle.writer.proofs.sound.format_sound.Reads as reads
-use Rattle.writer.proofs.sound.format_sound.Lts as lts
-use Rattle.format.proofs.flags.endianness_for.Reads as endianness-for-reads
-use Rattle.writer.proofs.sound.rate_sound.Reads as rate-sound-reads
-use Rattle.writer.proofs.sound.same_order.Reads as same-order-reads
 
--- src/sound.rt:49:9
 rate-sound-requires : tie.Need-rate-sound-requires
 rate-sound-requires c κs = search needs
 
--- src/sound.rt:50:9
 returns : tie.Need-returns
 unfolding formatSound
 returns c = rw (← c .before .rate-sound .ensures, not-true (c .before .rate-sound .result) (c .if1 .taken))
 
--- src/sound.rt:52:28
 endianness-for-requires : tie.Need-endianness-for-requires
 endianness-for-requires c κs = search needs
 
--- src/sound.rt:52:5
 same-order-requires : tie.Need-same-order-requires
 same-order-requires c κs = search needs
 
--- src/sound.rt:44:1
 returns-2 : tie.Need-returns-2
 unfolding formatSound
 returns-2 c = rw (← c .before .before .before .rate-sound .ensures, not-false (c .before .before .before .rate-sound .result) (c .before .before .if1 .left), ← c .before .endianness-for .ensures) (c .same-order .ensures)

@@ -7,28 +7,21 @@ use mathlib.Core.Path.{_≡_}
 use borrow.Author.Needs.{needs}
 use Rattle.writer.proofs.sound.headed_sound.Statement.{statement}
 use Rattle.writer.proofs.sound.headed_sound.Tie as tie
-use Rattle.writer.proofs.sound.headed_sound.Reads as reads
-use Rattle.writer.proofs.sound.headed_sound.Lts as lts
 
--- src/sound.rt:60:9
 returns : tie.Need-returns
 returns c = let w = c .before .before .args .w in
     rw (second-fails (eqb (w .«data_start») (w .«size_position» + 12)) (leb 24 (w .«data_start»)) (leb (w .«data_start») (w .«file_len»)) (leb (w .«data_count») (w .«file_len» - w .«data_start»)) (lt-leb _ _ (c .if1 .taken)))
 
--- src/sound.rt:62:8
 sub-if2 : tie.Need-sub-if2
 sub-if2 c = search needs
 
--- src/sound.rt:63:9
 returns-2 : tie.Need-returns-2
 returns-2 c = let w = c .before .before .before .before .before .args .w in rw (ne-eqb (w .«data_start») (w .«size_position» + 12) (λ e. c .if2 .taken (omega (arith, e))))
 
--- src/sound.rt:66:9
 returns-3 : tie.Need-returns-3
 returns-3 c = let w = c .before .before .before .before .before .before .before .args .w in let e : w .«data_start» ≡ w .«size_position» + 12 = omega arith in
     rw (eq-eqb _ _ e, le-leb _ _ (c .before .before .before .before .before .if1 .left), lt-leb _ _ (c .if3 .taken))
 
--- src/sound.rt:56:1
 returns-4 : tie.Need-returns-4
 returns-4 c = let w = c .before .before .before .before .before .before .before .before .before .args .w in let e : w .«data_start» ≡ w .«size_position» + 12 = omega arith in
     rw (eq-eqb _ _ e, le-leb _ _ (c .before .before .before .before .before .before .before .if1 .left), le-leb _ _ (c .before .before .if3 .left))

@@ -1,14 +1,10 @@
 use borrow.Author.Tests.{lt-ltb, le-ltb}
 use Rattle.writer.proofs.sound.is_too_long.Statement.{statement}
 use Rattle.writer.proofs.sound.is_too_long.Tie as tie
-use Rattle.writer.proofs.sound.is_too_long.Reads as reads
-use Rattle.writer.proofs.sound.is_too_long.Lts as lts
 
--- src/sound.rt:23:9
 returns : tie.Need-returns
 returns c = rw (lt-ltb _ _ (c .if1 .taken))
 
--- src/sound.rt:19:1
 returns-2 : tie.Need-returns-2
 returns-2 c = rw (le-ltb _ _ (c .if1 .left))
 

@@ -2,32 +2,23 @@ use borrow.Author.Tests.{le-leb, lt-leb}
 use lib.Seq.{length-take-le}
 use lib.ListN.{length}
 use native.Mathlib.Omega.{arith}
-use Prim.Native.Nat.{_≤_}
 use mathlib.Core.Path.{_≡_, sym}
 use borrow.Author.Needs.{needs}
 use Rattle.writer.proofs.sound.labels_sound.Statement.{statement}
 use Rattle.writer.proofs.sound.labels_sound.Tie as tie
-use Rattle.writer.proofs.sound.labels_sound.Reads as reads
-use Rattle.writer.proofs.sound.labels_sound.Lts as lts
-use Rattle.layout.proofs.known.all_known.Reads as all-known-reads
 
--- src/sound.rt:110:9
 returns : tie.Need-returns
 returns c = rw (lt-leb _ _ (c .if1 .taken))
 
--- src/sound.rt:113:15
 array-share-prefix-labels : tie.Need-array-share-prefix-labels
 array-share-prefix-labels c = let k : length (c .before .before .args .w .labels) ≡ 64 = search needs in omega arith
 
--- src/sound.rt:113:15
 slice-aggregate-all-known : tie.Need-slice-aggregate-all-known
 slice-aggregate-all-known c = let w = c .before .before .before .args .w in let k : length (w .labels) ≡ 64 = search needs in sym (length-take-le (w .«label_count») (w .labels) (omega arith))
 
--- src/sound.rt:113:5
 all-known-requires : tie.Need-all-known-requires
 all-known-requires c κs = search needs
 
--- src/sound.rt:105:1
 returns-2 : tie.Need-returns-2
 returns-2 c = rw (le-leb _ _ (c .before .before .before .if1 .left)) (c .all-known .ensures)
 

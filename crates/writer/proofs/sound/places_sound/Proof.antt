@@ -3,30 +3,22 @@ use borrow.Author.Tests.{eq-eqb, ne-eqb}
 use borrow.Author.Needs.{needs}
 use Rattle.writer.proofs.sound.places_sound.Statement.{statement}
 use Rattle.writer.proofs.sound.places_sound.Tie as tie
-use Rattle.writer.proofs.sound.places_sound.Reads as reads
-use Rattle.writer.proofs.sound.places_sound.Lts as lts
-use Rattle.writer.proofs.sound.headed_sound.Reads as headed-sound-reads
 
--- src/sound.rt:75:9
 headed-sound-requires : tie.Need-headed-sound-requires
 headed-sound-requires c κs = search needs
 
--- src/sound.rt:75:9
 returns : tie.Need-returns
 unfolding placesSound
 returns c = rw (c .before .if1 .taken) (c .headed-sound .ensures)
 
--- src/sound.rt:78:9
 returns-2 : tie.Need-returns-2
 unfolding placesSound
 returns-2 c = rw (c .before .before .if1 .left, ne-eqb _ _ (c .if2 .taken))
 
--- src/sound.rt:81:9
 returns-3 : tie.Need-returns-3
 unfolding placesSound
 returns-3 c = rw (c .before .before .before .before .if1 .left, eq-eqb _ _ (c .before .before .if2 .left), ne-eqb _ _ (c .if3 .taken))
 
--- src/sound.rt:71:1
 returns-4 : tie.Need-returns-4
 unfolding placesSound
 returns-4 c = rw (c .before .before .before .before .before .if1 .left, eq-eqb _ _ (c .before .before .before .if2 .left), eq-eqb _ _ (c .before .if3 .left))

@@ -4,22 +4,16 @@ use mathlib.Core.Path.{sym, ap}
 use borrow.Author.Needs.{needs}
 use Rattle.writer.proofs.sound.rate_sound.Statement.{statement}
 use Rattle.writer.proofs.sound.rate_sound.Tie as tie
-use Rattle.writer.proofs.sound.rate_sound.Reads as reads
-use Rattle.writer.proofs.sound.rate_sound.Lts as lts
 
--- src/sound.rt:36:32
 enum-told : tie.Need-enum-told
 enum-told c = search needs
 
--- src/sound.rt:37:30
 enum-known-format : tie.Need-enum-known-format
 enum-known-format c = search needs
 
--- src/sound.rt:32:1
 returns : tie.Need-returns
 returns c = search needs
 
--- src/sound.rt:32:1
 returns-2 : tie.Need-returns-2
 returns-2 c = rw ne-self (sym (ap rateSound (c .before .format .given .1)))
 

@@ -6,35 +6,26 @@ use mathlib.Core.Path.{_≡_, refl, sym, ap, _∙_}
 use borrow.Author.Needs.{needs}
 use Rattle.writer.proofs.sound.same_order.Statement.{statement}
 use Rattle.writer.proofs.sound.same_order.Tie as tie
-use Rattle.writer.proofs.sound.same_order.Reads as reads
-use Rattle.writer.proofs.sound.same_order.Lts as lts
-use Rattle.writer.proofs.sound.is_little.Reads as is-little-reads
 
 with-big : (b : Endianness) → not (isLittle b) ≡ sameOrder BigEndian b
 with-big BigEndian = refl
 with-big LittleEndian = refl
 
--- src/sound.rt:27:35
 enum-told : tie.Need-enum-told
 enum-told c = search needs
 
--- src/sound.rt:27:35
 is-little-requires : tie.Need-is-little-requires
 is-little-requires c κs = search needs
 
--- src/sound.rt:28:37
 enum-told-2 : tie.Need-enum-told-2
 enum-told-2 c = search needs
 
--- src/sound.rt:28:37
 is-little-requires-2 : tie.Need-is-little-requires-2
 is-little-requires-2 c κs = search needs
 
--- src/sound.rt:23:1
 returns : tie.Need-returns
 returns c = let b = c .before .before .before .args .b in ap not (c .is-little .ensures) ∙ with-big b ∙ sym (ap (λ (a : Endianness). sameOrder a b) (c .before .enum-told .given .1))
 
--- src/sound.rt:23:1
 returns-2 : tie.Need-returns-2
 returns-2 c = search needs
 

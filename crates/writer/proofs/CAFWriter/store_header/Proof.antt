@@ -1,0 +1,112 @@
+use lib.ListN.{length, length-take, replicate}
+use Rattle.writer.specs.Made.{headerBytes}
+use Rattle.writer.proofs.Heads.{rate-number, header-of, header-small, filled}
+use mathlib.Core.Path.{_≡_, sym, _∙_, ap}
+use native.Mathlib.Omega.{arith}
+use Prim.Native.Nat.{ℕ, _≤_}
+use mathlib.Core.List.{List}
+use Rattle.byteorder.specs.Splice.{storeCount, storeFirst}
+use Rattle.writer.specs.Record.{labelsOf, withHeader}
+use Rattle.writer.specs.Header.{isAbsent, headerOf, headerNumber, headerCall}
+use Rattle.writer.proofs.Tests.{true-false}
+use Rattle.writer.proofs.Facts.{sound-alone}
+use Rattle.writer.proofs.Kept.{header-allowed}
+use Rattle.writer.proofs.Counting.{counted-stored}
+use borrow.Author.Needs.{needs}
+use Rattle.writer.proofs.CAFWriter.store_header.Statement.{statement}
+use Rattle.writer.proofs.CAFWriter.store_header.Tie as tie
+
+enum-known-format : tie.Need-enum-known-format
+enum-known-format c = search needs
+
+enum-told : tie.Need-enum-told
+enum-told c = search needs
+
+without-stores-requires : tie.Need-without-stores-requires
+without-stores-requires c κs = search needs
+
+returns : tie.Need-returns
+returns c =
+    let a = c .before .before .before .before .args in
+    let w = a .self in
+    let room = length (a .buf .now) in
+    let h = header-allowed w room (c .before .before .before .before .pre) in
+    absurd (true-false (sym (ap isAbsent (c .before .enum-told .given .1)) ∙ h .present))
+
+fill-header-requires : tie.Need-fill-header-requires
+fill-header-requires c κs =
+    let a = c .before .before .before .before .before .args in
+    let w = a .self in
+    let room = length (a .buf .now) in
+    let h = header-allowed w room (c .before .before .before .before .before .pre) in
+    (search needs, rate-number w (c .before .before .format .given .0 .0) (c .before .before .format .given .1) (sound-alone w room (h .is-sound) .format))
+
+array-share-prefix-space : tie.Need-array-share-prefix-space
+array-share-prefix-space c =
+    let a = c .before .before .before .before .before .before .before .args in
+    let w = a .self in
+    let room = length (a .buf .now) in
+    let h = header-allowed w room (c .before .before .before .before .before .before .before .pre) in
+    let k : length (w .labels) ≡ 64 = search needs in
+    let few : length (labelsOf w) ≤ 64 = rw length-take (omega arith) in
+    let f = c .before .before .before .before .format .given .0 .0 in
+    let top = headerBytes f (w .layout) (labelsOf w) in
+    let g = filled (replicate 1372 0) top (c .before .fill-header .last .1 .0) (c .before .fill-header .result) (search needs) (header-small f (w .layout) (labelsOf w) few) (c .before .fill-header .ensures .0) (c .before .fill-header .ensures .1) in
+    g .within
+
+slice-aggregate-store : tie.Need-slice-aggregate-store
+slice-aggregate-store c =
+    let a = c .before .before .before .before .before .before .before .before .args in
+    let w = a .self in
+    let room = length (a .buf .now) in
+    let h = header-allowed w room (c .before .before .before .before .before .before .before .before .pre) in
+    let k : length (w .labels) ≡ 64 = search needs in
+    let few : length (labelsOf w) ≤ 64 = rw length-take (omega arith) in
+    let f = c .before .before .before .before .before .format .given .0 .0 in
+    let top = headerBytes f (w .layout) (labelsOf w) in
+    let g = filled (replicate 1372 0) top (c .before .before .fill-header .last .1 .0) (c .before .before .fill-header .result) (search needs) (header-small f (w .layout) (labelsOf w) few) (c .before .before .fill-header .ensures .0) (c .before .before .fill-header .ensures .1) in
+    g .many
+
+store-requires : tie.Need-store-requires
+store-requires c κs = search needs
+
+with-stores-requires : tie.Need-with-stores-requires
+with-stores-requires c κs = search needs
+
+same-length : tie.Need-same-length
+same-length c = search needs
+
+returns-2 : tie.Need-returns-2
+unfolding headerCall
+returns-2 c =
+    let a = c .before .before .before .before .before .before .before .before .before .before .before .before .args in
+    let w = a .self in
+    let room = length (a .buf .now) in
+    let h = header-allowed w room (c .before .before .before .before .before .before .before .before .before .before .before .before .pre) in
+    let k : length (w .labels) ≡ 64 = search (needs, c .before .before .before .before .before .before .before .before .before .before .before .before) in
+    let few : length (labelsOf w) ≤ 64 = rw length-take (omega arith) in
+    let f = c .before .before .before .before .before .before .before .before .before .format .given .0 .0 in
+    let top = headerBytes f (w .layout) (labelsOf w) in
+    let g = filled (replicate 1372 0) top (c .before .before .before .before .before .before .fill-header .last .1 .0) (c .before .before .before .before .before .before .fill-header .result) (search needs) (header-small f (w .layout) (labelsOf w) few) (c .before .before .before .before .before .before .fill-header .ensures .0) (c .before .before .before .before .before .before .fill-header .ensures .1) in
+    let e = g .is ∙ sym (header-of w f (c .before .before .before .before .before .before .before .before .before .format .given .1)) in
+    let st = c .before .before .before .store in
+    let k₁ = st .ensures .0 ∙ ap (λ (l : List ℕ). storeCount (a .n) (length l) 0 room) e in
+    let b = st .ensures .1 ∙ ap (λ (l : List ℕ). storeFirst (a .n) l 0 (a .buf .now)) e in
+    let d = counted-stored (a .n) w (a .buf .now) (headerNumber w room) 0 (headerOf w) (withHeader w (length (headerOf w))) (c .before .before .before .before .before .before .before .before .before .before .before .before .pre) (omega (arith, h .in-room)) (st .result) _ k₁ b in
+    (c .with-stores .ensures ∙ d .0, d .1)
+
+pub store-header-spec : {M : Type 1} → statement M
+store-header-spec =
+    tie.close
+    (tie.spec
+    enum-known-format
+    enum-told
+    without-stores-requires
+    returns
+    fill-header-requires
+    array-share-prefix-space
+    slice-aggregate-store
+    store-requires
+    with-stores-requires
+    same-length
+    returns-2)
