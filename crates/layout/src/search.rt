@@ -2,12 +2,11 @@
 use crate::ChannelLayout;
 use crate::Row;
 use crate::table::ROWS;
-use crate::table::STANDARD_LAYOUTS;
+use crate::table::row_at;
 ghost use mathlib.Core.Path.{_≡_};
-ghost use Prim.Native.Nat.{_<_, _≤_};
-ghost use lib.ListN.{getD};
+ghost use Prim.Native.Nat.{_≤_};
 ghost use Rattle.byteorder.specs.Same.{exactly};
-ghost use Rattle.layout.specs.Table.{standardLayouts, beyond, row, rowOrder};
+ghost use Rattle.layout.specs.Table.{rowOrder};
 ghost use Rattle.layout.specs.Search.{layoutFor, layoutFrom};
 
 // Only the first `count` labels of a row are its order, so the count is compared too.
@@ -27,13 +26,6 @@ fn matches(row: Row, labels: &[u32]) -> bool
         i += 1;
     }
     true
-}
-
-fn row_at(i: usize) -> Row
-    requires { ⌜ i < 43 ⌝ }
-    ensures { λ r. ⌜ r ≡ row (getD standardLayouts i beyond) ⌝ }
-{
-    STANDARD_LAYOUTS[i]
 }
 
 pub fn layout_for(labels: &[u32]) -> ChannelLayout

@@ -26,10 +26,12 @@ use crate::label::RIGHT_WIDE;
 use crate::label::XYX;
 use crate::label::XYY;
 use crate::tag;
+ghost use mathlib.Core.Path.{_≡_};
+ghost use Rattle.layout.specs.Table.{rowAt};
 
 pub const ROWS: usize = 43;
 
-pub const STANDARD_LAYOUTS: [Row; ROWS] = [
+const STANDARD_LAYOUTS: [Row; ROWS] = [
     Row {
         tag: tag::MONO,
         count: 1,
@@ -435,3 +437,17 @@ pub const STANDARD_LAYOUTS: [Row; ROWS] = [
         ],
     },
 ];
+
+// The row at a place of the table; behind its end a row of no labels.
+pub fn row_at(i: usize) -> Row
+    ensures { λ r. ⌜ r ≡ rowAt i ⌝ }
+{
+    if ROWS <= i {
+        return Row {
+            tag: 0,
+            count: 0,
+            labels: [0, 0, 0, 0, 0, 0, 0, 0],
+        };
+    }
+    STANDARD_LAYOUTS[i]
+}
