@@ -8,6 +8,7 @@ use lib.ListN.{length, getD, drop, replicate, List·getD-eq-default}
 use lib.Seq.{drop-cons, take-append-seam}
 use Rattle.byteorder.specs.Same.{exactly}
 use Rattle.layout.specs.Table.{StandardLayout, standardLayouts, beyond, row, rowAt, rowOrder, rowPlaces}
+use Rattle.layout.specs.Counts.{«43-rows»}
 use Rattle.layout.specs.Search.{firstRow}
 use Rattle.layout.specs.declared.ChannelLayout.the-variants.{Tagged}
 use Rattle.layout.specs.declared.Row.{Row}
@@ -21,15 +22,11 @@ row-of [] i h = absurd (let z : ⊥ = omega arith in z)
 row-of (l ∷ ls) zero h = refl
 row-of (l ∷ ls) (suc i) h = row-of ls i (omega arith)
 
-pub many : length standardLayouts ≡ 43
-unfolding standardLayouts
-many = refl
-
 pub row-at : (i : ℕ) → i < 43 → getD (map row standardLayouts) i noRow ≡ rowAt i
-row-at i h = row-of standardLayouts i (rw many h)
+row-at i h = row-of standardLayouts i (rw «43-rows» h)
 
 pub row-behind : (i : ℕ) → 43 ≤ i → row beyond ≡ rowAt i
-row-behind i h = ap row (sym (List·getD-eq-default standardLayouts beyond (rw many h)))
+row-behind i h = ap row (sym (List·getD-eq-default standardLayouts beyond (rw «43-rows» h)))
 
 -- the padding takes nothing from a row's order
 pub order-kept : (l : StandardLayout) → rowOrder (row l) ≡ l .order
@@ -38,4 +35,4 @@ order-kept l = take-append-seam (l .order) (replicate (rowPlaces - length (l .or
 -- one turn of the search
 pub next-row : (i : ℕ) (ls : List ℕ) (r : Row) → r ≡ rowAt i → i < 43
     → firstRow (drop i standardLayouts) ls ≡ cond (exactly (rowOrder r) ls) (Tagged (r .tag)) (firstRow (drop (suc i) standardLayouts) ls)
-next-row i ls r e h = rw (drop-cons standardLayouts i beyond (rw many h), e, order-kept)
+next-row i ls r e h = rw (drop-cons standardLayouts i beyond (rw «43-rows» h), e, order-kept)

@@ -14,7 +14,7 @@ use Rattle.layout.specs.Known.{knownLabel, knownTag, allKnown}
 use Rattle.layout.specs.Table.{StandardLayout, standardLayouts, beyond, rowPlaces}
 use Rattle.layout.specs.Search.{layoutFor}
 use Rattle.layout.specs.Order.{orderFor}
-use Rattle.layout.specs.Claims.{RowRules, EachRow, shadowed, ThreeShadowed}
+use Rattle.layout.specs.Claims.{RowRules, EachRow, ThreeShadowed}
 use Rattle.layout.proofs.Every.{every, each, both}
 
 isOrder : Option (List ℕ) → List ℕ → Bool

@@ -19,13 +19,13 @@ word-requires : tie.Need-word-requires
 word-requires c κs = search needs
 
 array-share-prefix-labels : tie.Need-array-share-prefix-labels
-array-share-prefix-labels c = 
+array-share-prefix-labels c =
     let r = c .before .before .before .before .before .args .row in
     let eight : length (r .labels) ≡ 8 = search needs in
     omega arith
 
 slice-aggregate-numbers : tie.Need-slice-aggregate-numbers
-slice-aggregate-numbers c = 
+slice-aggregate-numbers c =
     let r = c .before .before .before .before .before .before .args .row in
     let eight : length (r .labels) ≡ 8 = search needs in
     sym (length-take-le (r .count) (r .labels) (omega arith))
@@ -34,13 +34,13 @@ numbers-requires : tie.Need-numbers-requires
 numbers-requires c κs = search needs
 
 array-share-prefix-labels-2 : tie.Need-array-share-prefix-labels-2
-array-share-prefix-labels-2 c = 
+array-share-prefix-labels-2 c =
     let r = c .before .before .before .before .before .before .before .args .row in
     let eight : length (r .labels) ≡ 8 = search needs in
     omega arith
 
 slice-aggregate-layout-for : tie.Need-slice-aggregate-layout-for
-slice-aggregate-layout-for c = 
+slice-aggregate-layout-for c =
     let r = c .before .before .before .before .before .before .before .before .args .row in
     let eight : length (r .labels) ≡ 8 = search needs in
     sym (length-take-le (r .count) (r .labels) (omega arith))

@@ -1,12 +1,13 @@
-use mathlib.Core.Path.{_≡_, refl, ap, sym, _∙_}
-use Prim.Native.Nat.{ℕ, _≤_, _-_}
+use mathlib.Core.Path.{_≡_, refl, sym, _∙_}
+use Prim.Native.Nat.{_≤_, _-_}
 use native.Mathlib.Numerals.{add-one}
 use native.Mathlib.Omega.{arith}
 use lib.ListN.{drop, drop-of-length-le}
 use borrow.Author.Needs.{needs}
 use Rattle.layout.specs.Table.{standardLayouts}
 use Rattle.layout.specs.Search.{firstRow, layoutFor}
-use Rattle.layout.proofs.Rows.{many, next-row}
+use Rattle.layout.specs.Counts.{«43-rows»}
+use Rattle.layout.proofs.Rows.{next-row}
 use Rattle.layout.proofs.Rules.{each-row}
 use Rattle.layout.proofs.search.layout_for.Statement.{statement}
 use Rattle.layout.proofs.search.layout_for.Tie as tie
@@ -25,7 +26,7 @@ row-at-requires : tie.Need-row-at-requires Inv-loop μ-loop
 row-at-requires c κs = search needs
 
 matches-requires : tie.Need-matches-requires Inv-loop μ-loop
-matches-requires c κs = rw (c .row-at .ensures) (each-row (c .before .before .loop .i) (rw many (omega arith)) .fits)
+matches-requires c κs = rw (c .row-at .ensures) (each-row (c .before .before .loop .i) (rw «43-rows» (omega arith)) .fits)
 
 returns : tie.Need-returns Inv-loop μ-loop
 returns c =
@@ -46,7 +47,7 @@ loop-again c =
     (omega arith, rw add-one (l .inv .1 ∙ next-row (l .i) (c .before .before .before .before .before .before .args .labels .now) (r .result) (r .ensures) (omega arith) ∙ rw (sym (c .before .matches .ensures) ∙ c .if1 .left)))
 
 returns-2 : tie.Need-returns-2 Inv-loop μ-loop
-returns-2 c = sym (c .before .loop .inv .1 ∙ rw (drop-of-length-le standardLayouts {i = c .before .loop .i} (rw many (omega arith))))
+returns-2 c = sym (c .before .loop .inv .1 ∙ rw (drop-of-length-le standardLayouts {i = c .before .loop .i} (rw «43-rows» (omega arith))))
 
 pub layout-for-spec : {M : Type 1} → statement M
 layout-for-spec =
