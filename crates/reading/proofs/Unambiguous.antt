@@ -17,7 +17,8 @@ use Rattle.reading.specs.Claims.{Unambiguous}
 use Rattle.reading.specs.declared.StrictInfo.{StrictInfo}
 use Rattle.reading.specs.declared.StrictAnswer.{StrictAnswer}
 use Rattle.reading.specs.declared.StrictAnswer.the-variants.{Accepted, Rejected}
-use Rattle.reading.proofs.Complete.{its-type, its-size, its-length, strict-complete}
+use Rattle.reading.proofs.Front.{its-type, its-size, its-length}
+use Rattle.reading.proofs.Complete.{strict-complete}
 
 -- two lists that are equal, cut at the same place
 cut : (a b : List ℕ) {x y : List ℕ} → length a ≡ length b → a ++ x ≡ b ++ y → (a ≡ b) × (x ≡ y)
