@@ -1,13 +1,12 @@
 -- The readings answer by the rows of the table, and by no others.
 use mathlib.Core.Path.{_≡_, refl, sym, _∙_, ap}
-use mathlib.Core.Bool.{Bool, true, false, cond, not, _&&_, true≢false}
+use mathlib.Core.Bool.{Bool, true, false, not, _&&_, true≢false}
 use mathlib.Core.List.{List}
 use Prim.Native.Nat.{ℕ, zero, suc, _+_, _-_, _<_, _≤_}
 use native.Mathlib.Omega.{arith}
 use lib.ListN.{length}
 use lib.Dec.{ltb, eqb}
-use borrow.Author.Tests.{ltb-true, ltb-false, lt-ltb, le-ltb, eqb-true, eq-eqb, ne-eqb, not-true, not-false}
-use Rattle.answers.specs.Numbers.{cutShort, notCaf, noData, badRate, badVersion, badDesc}
+use borrow.Author.Tests.{ltb-true, ltb-false, lt-ltb, le-ltb, eqb-true, not-true, not-false}
 use Rattle.byteorder.specs.Same.{exactly}
 use Rattle.byteorder.specs.Big.{bigAt}
 use Rattle.byteorder.proofs.Same.{exactly-eq, exactly-no}
@@ -22,7 +21,7 @@ use Rattle.reading.specs.Plain.{plainStep, plain}
 use Rattle.reading.specs.Strict.{strictInfo, strictStep, strictAnswer, isFirstDesc, firstBody, firstChunk, strict}
 use Rattle.reading.specs.Rules.{stepBy}
 use Rattle.reading.specs.Table
-use Rattle.reading.specs.Table.{fourAt, behind, Header, Place, Begins, StrictBegins, FirstDesc, Reaches, PlainGives, StrictGives}
+use Rattle.reading.specs.Table.{fourAt, behind, Place, Begins, StrictBegins, FirstDesc, Reaches, PlainGives, StrictGives}
 use Rattle.reading.specs.Claims.{PlainExactly, StrictExactly}
 use Rattle.reading.specs.declared.Step.{Step}
 use Rattle.reading.specs.declared.Step.the-variants.{Format, Skip, Data, Refused}
@@ -31,14 +30,10 @@ use Rattle.reading.specs.declared.Rules.the-variants.{Plain, Strict}
 use Rattle.reading.specs.declared.PlainAnswer.{PlainAnswer}
 use Rattle.reading.specs.declared.PlainAnswer.the-variants.{Found, NotRead}
 use Rattle.reading.specs.declared.StrictAnswer.{StrictAnswer}
-use Rattle.reading.specs.declared.StrictAnswer.the-variants.{Accepted, Rejected}
-use Rattle.reading.proofs.Choice.{either}
+use Rattle.reading.specs.declared.StrictAnswer.the-variants.{Accepted}
+use Rattle.reading.proofs.Choice.{either, both}
 use Rattle.reading.proofs.Walk.{Ahead, step-ahead, walk-on}
 use Rattle.reading.proofs.Place.{step-of, place-of, differs}
-
-both : (a b : Bool) → a && b ≡ true → (a ≡ true) × (b ≡ true)
-both true b h = (refl, h)
-both false b h = (h, cc)
 
 refuted : (b : Bool) → ¬ (b ≡ true) → b ≡ false
 refuted true h = absurd (h refl)
@@ -100,7 +95,7 @@ module _ (s : List ℕ) where
   comes rules q f j (Table.past-other at row) = comes-other rules _ _ _ q (comes rules _ _ _ at) row
 
   -- from a row to the answer
-  pub plain-row : (a : PlainAnswer) → PlainGives s a → plain s ≡ a
+  plain-row : (a : PlainAnswer) → PlainGives s a → plain s ≡ a
   unfolding plain
   plain-row a (PlainGives.short h) = rw (lt-ltb (length s) fileHeaderSize h)
   plain-row a (PlainGives.no-caff h n) = rw (le-ltb (length s) fileHeaderSize h, exactly-no (fourAt s 0) 'caff' n)
@@ -113,7 +108,7 @@ module _ (s : List ℕ) where
   accepted-values p f k size start e (Table.open-data h z b) = let g : first ≡ f = cc in rw g
   accepted-values p f k size start e (Table.closed-data h b g z) = let g : first ≡ f = cc in rw g
 
-  pub strict-row : (a : StrictAnswer) → StrictGives s a → strict s ≡ a
+  strict-row : (a : StrictAnswer) → StrictGives s a → strict s ≡ a
   unfolding strict
   strict-row a (StrictGives.short h) = rw (lt-ltb (length s) fileHeaderSize h)
   strict-row a (StrictGives.no-caff h n) = rw (le-ltb (length s) fileHeaderSize h, exactly-no (fourAt s 0) 'caff' n)

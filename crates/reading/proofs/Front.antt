@@ -14,7 +14,7 @@ use Rattle.format.proofs.RoundTrip.{format-there, number-there}
 use Rattle.format.specs.declared.AudioFormat.{AudioFormat}
 use Rattle.format.specs.declared.MaybeFormat.{MaybeFormat}
 use Rattle.format.specs.declared.MaybeFormat.the-variants.{Present}
-use Rattle.reading.specs.Types.{'desc', typeSize, fileHeaderSize, chunkHeaderSize, negative}
+use Rattle.reading.specs.Types.{'desc', typeSize, chunkHeaderSize, negative}
 use Rattle.reading.specs.Grammar.{fileHeader, chunk, OtherChunk, OtherAllowed, OthersAllowed, otherChunks, front}
 use Rattle.reading.specs.Step.{left, sizeAt, badRateAt}
 use Rattle.reading.specs.Table

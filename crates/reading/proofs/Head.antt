@@ -1,5 +1,5 @@
 -- Where a reading ends well, the bytes before the data start decide its answer, and for the strict one the file's length.
-use mathlib.Core.Path.{_≡_, refl, sym, _∙_, ap}
+use mathlib.Core.Path.{_≡_, sym, _∙_, ap}
 use mathlib.Core.List.{List, _++_}
 use Prim.Native.Nat.{ℕ, _+_, _-_, _≤_}
 use native.Mathlib.Nat.{zero-add}
@@ -9,19 +9,18 @@ use lib.Seq.{take-add, take-take, drop-at, length-take-le, take-append-le}
 use Rattle.byteorder.specs.Big.{bigAt}
 use Rattle.byteorder.specs.Rate.{rateOf}
 use Rattle.byteorder.proofs.Laws.{big-part}
-use Rattle.format.specs.Desc.{formatAt, descSize}
+use Rattle.format.specs.Desc.{formatAt}
 use Rattle.format.specs.declared.AudioFormat.{AudioFormat}
 use Rattle.format.specs.declared.MaybeFormat.{MaybeFormat}
 use Rattle.format.specs.declared.MaybeFormat.the-variants.{Present}
-use Rattle.reading.specs.Types.{typeSize, fileHeaderSize, chunkHeaderSize}
+use Rattle.reading.specs.Types.{typeSize, fileHeaderSize}
 use Rattle.reading.specs.Step.{left, sizeAt, bodyAt}
 use Rattle.reading.specs.Walk.{infoOf}
 use Rattle.reading.specs.Plain.{plain}
-use Rattle.reading.specs.Strict.{strictInfo, strict}
+use Rattle.reading.specs.Strict.{strict}
 use Rattle.reading.specs.Table
 use Rattle.reading.specs.Table.{fourAt, Header, Other, Place, Begins, FirstDesc, Reaches, PlainGives, StrictGives}
 use Rattle.reading.specs.Claims.{HeadDecides}
-use Rattle.reading.specs.declared.Step.{Step}
 use Rattle.reading.specs.declared.Step.the-variants.{Format, Skip, Data}
 use Rattle.reading.specs.declared.Rules.{Rules}
 use Rattle.reading.specs.declared.Rules.the-variants.{Plain, Strict}
@@ -29,7 +28,7 @@ use Rattle.reading.specs.declared.CAFFileInfo.{CAFFileInfo}
 use Rattle.reading.specs.declared.StrictInfo.{StrictInfo}
 use Rattle.reading.specs.declared.PlainAnswer.the-variants.{Found}
 use Rattle.reading.specs.declared.StrictAnswer.the-variants.{Accepted}
-use Rattle.reading.proofs.Walk.{Ahead, ahead}
+use Rattle.reading.proofs.Walk.{ahead}
 use Rattle.reading.proofs.Exactly.{plain-exactly, strict-exactly}
 use Rattle.reading.proofs.Found.{GoodAnswer, plain-good}
 use Rattle.reading.proofs.Then.{strict-then-plain}

@@ -4,13 +4,12 @@ use mathlib.Core.Bool.{Bool, true, false, cond, not, _&&_, _||_, true≢false}
 use mathlib.Core.List.{List}
 use Prim.Native.Nat.{ℕ, _+_, _-_, _<_, _≤_}
 use native.Mathlib.Omega.{arith}
-use lib.ListN.{length}
-use lib.Dec.{ltb, leb, eqb}
+use lib.Dec.{ltb, leb}
 use borrow.Author.Tests.{ltb-true, ltb-false, leb-true, leb-false, eqb-true, eqb-false, lt-ltb, le-ltb, lt-leb, le-leb, ne-eqb}
 use Rattle.byteorder.specs.Same.{exactly}
 use Rattle.byteorder.proofs.Same.{exactly-refl, exactly-eq, exactly-no}
 use Rattle.answers.specs.Numbers.{noData, cutShort, badSize, dataPastEnd, dataEndsEarly}
-use Rattle.format.specs.Desc.{formatAt, descSize}
+use Rattle.format.specs.Desc.{descSize}
 use Rattle.reading.specs.Types.{'desc', 'data', typeSize, chunkHeaderSize, editSize, openSize, negative}
 use Rattle.reading.specs.Step.{left, standsAt, sizeAt, bodyAt, badRateAt, descAt, skipAt, stepAt}
 use Rattle.reading.specs.Plain.{plainData}
@@ -19,7 +18,7 @@ use Rattle.reading.specs.Rules.{onDesc, onData, pastEnd, stepBy}
 use Rattle.reading.specs.Table
 use Rattle.reading.specs.Table.{fourAt, behind, Header, Other, Possible, Place}
 use Rattle.reading.specs.declared.Step.{Step}
-use Rattle.reading.specs.declared.Step.the-variants.{Format, Skip, Data, Refused}
+use Rattle.reading.specs.declared.Step.the-variants.{Skip, Data, Refused}
 use Rattle.reading.specs.declared.Rules.{Rules}
 use Rattle.reading.specs.declared.Rules.the-variants.{Plain, Strict}
 use Rattle.reading.proofs.Choice.{either}
@@ -38,7 +37,7 @@ possible z h = go (ltb z editSize) (leb negative z) (isOpenSize z) refl refl ref
     go false true false x y w h = absurd (true≢false h)
     go false false c x y w h = Possible.counted (ltb-false z editSize x) (leb-false negative z y)
 
-pub not-bad : (z : ℕ) → Possible z → isBadDataSize z ≡ false
+not-bad : (z : ℕ) → Possible z → isBadDataSize z ≡ false
 not-bad z (Possible.minus-one e) = rw e
 not-bad z (Possible.counted h g) = rw (le-ltb z editSize h, lt-leb negative z g)
 

@@ -1,22 +1,21 @@
 -- One file, one meaning: the bytes of a CAF file tell what it says.
 use mathlib.Core.Path.{_≡_, refl, sym, _∙_, ap}
 use mathlib.Core.Bool.{Bool}
-use mathlib.Core.List.{List, [], _∷_, _++_, append-assoc}
+use mathlib.Core.List.{List, [], _∷_, _++_}
 use Prim.Native.Nat.{ℕ, _+_, _-_, _^_, _<_}
 use native.Mathlib.Omega.{arith}
 use lib.ListN.{length, take, drop, length-append}
 use lib.Seq.{take-at, drop-at}
-use Rattle.byteorder.specs.Big.{bigAt, bigBytes}
+use Rattle.byteorder.specs.Big.{bigAt}
 use Rattle.byteorder.proofs.Laws.{kept}
 use Rattle.format.specs.Desc.{descBody}
 use Rattle.format.specs.declared.AudioFormat.{AudioFormat}
 use Rattle.reading.specs.Types.{'desc', typeSize, chunkHeaderSize, editSize}
-use Rattle.reading.specs.Grammar.{fileHeader, chunkHeader, chunk, OtherChunk, OtherAllowed, OthersAllowed, otherChunks, dataChunk, CafFile, Allowed, front, bytesOf, valuesOf, chunksOf, sizePosition}
+use Rattle.reading.specs.Grammar.{fileHeader, chunkHeader, chunk, OtherChunk, OtherAllowed, OthersAllowed, otherChunks, dataChunk, front, bytesOf, valuesOf, sizePosition}
 use Rattle.reading.specs.Strict.{strict}
 use Rattle.reading.specs.Claims.{Unambiguous}
 use Rattle.reading.specs.declared.StrictInfo.{StrictInfo}
-use Rattle.reading.specs.declared.StrictAnswer.{StrictAnswer}
-use Rattle.reading.specs.declared.StrictAnswer.the-variants.{Accepted, Rejected}
+use Rattle.reading.specs.declared.StrictAnswer.the-variants.{Accepted}
 use Rattle.reading.proofs.Front.{its-type, its-size, its-length}
 use Rattle.reading.proofs.Complete.{strict-complete}
 
