@@ -1,6 +1,6 @@
 -- The readings answer by the rows of the table, and by no others.
 use mathlib.Core.Path.{_≡_, refl, sym, _∙_, ap}
-use mathlib.Core.Bool.{Bool, true, false, not, _&&_, true≢false}
+use mathlib.Core.Bool.{Bool, true, false, not, true≢false}
 use mathlib.Core.List.{List}
 use Prim.Native.Nat.{ℕ, zero, suc, _+_, _-_, _<_, _≤_}
 use native.Mathlib.Omega.{arith}
@@ -41,7 +41,7 @@ refuted false h = refl
 
 module _ (s : List ℕ) where
   -- the format of the strict reading's one `desc`
-  abbrev first : AudioFormat
+  abbrev pub first : AudioFormat
   first = formatAt s (bodyAt fileHeaderSize)
 
   -- four bytes that stand at a position, or do not, as tests
@@ -72,7 +72,7 @@ module _ (s : List ℕ) where
       }
 
   -- what the reading comes to is what its walk comes to from each place that it reaches
-  abbrev Comes : Rules → ℕ → MaybeFormat → ℕ → Type 0
+  abbrev pub Comes : Rules → ℕ → MaybeFormat → ℕ → Type 0
   Comes Plain p f k = plain s ≡ walk plainStep s p f k
   Comes Strict p f k = (strict s ≡ strictAnswer s first (walk strictStep s p f k)) × (f ≡ Present first)
 
@@ -86,7 +86,7 @@ module _ (s : List ℕ) where
   comes-other Plain p f k q c row = c ∙ turn-to Plain p f k (Skip q) row
   comes-other Strict p f k q c row = (c .0 ∙ ap (strictAnswer s first) (turn-to Strict p f k (Skip q) row), c .1)
 
-  comes : (rules : Rules) (p : ℕ) (f : MaybeFormat) (k : ℕ) → Reaches s rules p f k → Comes rules p f k
+  pub comes : (rules : Rules) (p : ℕ) (f : MaybeFormat) (k : ℕ) → Reaches s rules p f k → Comes rules p f k
   unfolding plain
   comes rules p f k (Table.plain-begins b) = rw (le-ltb (length s) fileHeaderSize (b .whole), stands 0 'caff' refl (b .caff))
   comes rules p f k (Table.strict-begins d b r) =

@@ -88,17 +88,17 @@ module _ (rules : Rules) where
       let b : k + 1 + length cs ≡ k + suc (length cs) = omega arith in
       rw (a, b) at (passes cs s (pre ++ one) tail n f (k + 1) (ok .1) e₂ l₂ (Table.past-other at row))
 
+pub front-length : (f : AudioFormat) (others : List OtherChunk) → length (front f others) ≡ 52 + length (otherChunks others)
+unfolding front descBody
+front-length f others = omega arith
+
 -- the front of a file, and anything behind it
 module _ (f : AudioFormat) (typed : Typed f) (rate : RateIsNumber f) (others : List OtherChunk) (ok : OthersAllowed others) (rest : List ℕ) where
   abbrev s : List ℕ
   s = front f others ++ rest
 
-  pub front-length : length (front f others) ≡ 52 + length (otherChunks others)
-  unfolding front descBody
-  front-length = omega arith
-
   whole-length : length s ≡ 52 + length (otherChunks others) + length rest
-  whole-length = rw length-append (omega (arith, front-length))
+  whole-length = rw length-append (omega (arith, front-length f others))
 
   format-is : formatAt s 20 ≡ f
   unfolding formatAt front descBody
@@ -129,4 +129,4 @@ module _ (f : AudioFormat) (typed : Typed f) (rate : RateIsNumber f) (others : L
   unfolding front descBody
   reaches-data rules =
       let head = fileHeader ++ chunk 'desc' (descBody f) in
-      rw (sym front-length) at (passes rules others s head rest 52 (Present f) 1 ok (append-assoc head (otherChunks others) rest) refl (behind-desc rules))
+      rw (sym (front-length f others)) at (passes rules others s head rest 52 (Present f) 1 ok (append-assoc head (otherChunks others) rest) refl (behind-desc rules))
