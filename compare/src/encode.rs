@@ -89,7 +89,7 @@ pub fn call(bytes: &mut Bytes, call: &Call) {
         Call::Labels { labels, channels } => bytes.one(3).four((*channels).into()).numbers(labels.iter().copied()),
         Call::Configure { rate, channels, bits, labels } => bytes
             .one(4)
-            .four((*rate).into())
+            .eight(f64::from(*rate).to_bits())
             .four((*channels).into())
             .four((*bits).into())
             .numbers(labels.iter().copied()),

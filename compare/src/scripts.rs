@@ -93,8 +93,8 @@ pub fn samples(random: &mut Random) -> Vec<i32> {
 
 fn write(random: &mut Random) -> Call {
     match random.below(8) {
-        0..=1 => Call::Header,
-        2..=3 => {
+        0 => Call::Header,
+        1..=3 => {
             let n = random.below(20);
             Call::Data(random.bytes(n))
         }
@@ -125,18 +125,42 @@ fn setting(random: &mut Random, rows: &[Vec<u32>]) -> Call {
     }
 }
 
+/// A setting of a format that 01 accepts.
+fn sound_setting(random: &mut Random, rows: &[Vec<u32>]) -> Call {
+    if random.one_in(2) {
+        let labels = labels(random, rows);
+        let bits = random.pick(&[16, 20, 24, 32]);
+        return Call::Configure { rate: random.edge32(), channels: labels.len() as u32, bits, labels };
+    }
+    let rate = random.pick(&[0.0, -1.5, 8000.0, 44100.0, 48000.0, 1e300, f64::INFINITY]);
+    Call::Format {
+        rate_bits: rate.to_bits(),
+        channels: random.below(70) as u32,
+        bits: random.below(40) as u32,
+        float: random.one_in(2),
+        little: random.one_in(2),
+    }
+}
+
+/// How the file comes to be there: by a header, most often, or by a resume.
+fn begin(random: &mut Random, rows: &[Vec<u32>], script: &mut Script) {
+    if random.one_in(6) {
+        let good = files::good(random);
+        script.push(Call::ResumeFrom(if random.one_in(3) { files::damaged(random, &good) } else { good }));
+        return;
+    }
+    script.push(sound_setting(random, rows));
+    while random.one_in(2) {
+        script.push(setting(random, rows));
+    }
+    script.push(Call::Header);
+}
+
 /// A script that most often gets as far as audio in a file.
 pub fn random(random: &mut Random, rows: &[Vec<u32>]) -> Script {
     let mut script = Vec::new();
-    for _ in 0..random.below(3) {
-        script.push(setting(random, rows));
-    }
-    if random.one_in(6) {
-        let good = files::good(random);
-        let file = if random.one_in(3) { files::damaged(random, &good) } else { good };
-        script.push(Call::ResumeFrom(file));
-    } else if !random.one_in(8) {
-        script.push(Call::Header);
+    if !random.one_in(8) {
+        begin(random, rows, &mut script);
     }
     for _ in 0..random.below(7) {
         script.push(match random.below(10) {

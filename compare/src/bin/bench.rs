@@ -15,8 +15,8 @@ use harness::answer::Side;
 use harness::files::{HEADS, chunk, format_body};
 use harness::known;
 use harness::oracle::Rust;
-use oracle::caf::{CAFWriter, ChannelLabel, Endianness, PCMDataType, parse_caf_file};
 use linked::Writer;
+use oracle::caf::{CAFWriter, ChannelLabel, Endianness, PCMDataType, parse_caf_file};
 
 const RUNS: usize = 11;
 const REGION: usize = 16 << 20;

@@ -14,8 +14,8 @@ use harness::script::Script;
 use harness::scripts;
 
 const SEED: u64 = 1;
-const RANDOM_FILES: usize = 50;
-const RANDOM_SCRIPTS: usize = 130;
+const RANDOM_FILES: usize = 35;
+const RANDOM_SCRIPTS: usize = 90;
 const RANDOM_SAMPLES: usize = 20;
 
 struct Sample(Vec<Vec<u8>>);

@@ -1,27 +1,10 @@
 // Cases of layouts: a list of labels, and the tag that the Rust gave it or how many channels it described.
 use crate::input::count;
+use crate::lists::MOST_LABELS;
+use crate::lists::labels_at;
 use byteorder::read::be_u32;
 use layout::ChannelLayout;
 use layout::search::layout_for;
-ghost use Prim.Native.Nat.{_+_, _*_, _≤_};
-ghost use mathlib.Core.Path.{_≡_};
-ghost use lib.ListN.{length};
-
-pub(crate) const MOST_LABELS: usize = 64;
-
-// The n labels at p.
-pub(crate) fn labels_at(s: &[u8], p: usize, n: usize) -> [u32; 64]
-    requires { ⌜ (n ≤ 64) × (p + 4 * n ≤ length (now s)) ⌝ }
-    ensures { λ r. ⌜ 64 ≡ length r ⌝ }
-{
-    let mut labels = [0u32; 64];
-    let mut i: usize = 0;
-    while i < n {
-        labels[i] = be_u32(s, p + 4 * i);
-        i += 1;
-    }
-    labels
-}
 
 fn same_layout(layout: ChannelLayout, n: usize, tag: u32, described: usize) -> bool {
     match layout {

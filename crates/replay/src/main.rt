@@ -1,14 +1,18 @@
 // Replays the Rust's answers, which stand in the file `stdin` (compare/README.md gives the meaning of each byte), and prints how many
 // are ours too. It needs no Rust.
+mod calls;
 mod input;
 mod labels;
+mod lists;
 mod readings;
 mod samples;
+mod scripts;
 
 use input::count;
 use labels::same_labels;
 use readings::same_reading;
 use samples::same_samples;
+use scripts::same_script;
 
 struct Tally {
     same: u64,
@@ -23,6 +27,7 @@ fn same_case(kind: u8, body: &[u8]) -> bool {
         b'L' => same_labels(body),
         b'R' => same_reading(body),
         b'S' => same_samples(body),
+        b'W' => same_script(body),
         _ => false,
     }
 }

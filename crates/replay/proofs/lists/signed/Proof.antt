@@ -1,8 +1,8 @@
 use native.Mathlib.Omega.{arith}
 use Rattle.replay.proofs.Signed.{taken-fits, signed-fits}
 use borrow.Author.Needs.{needs}
-use Rattle.replay.proofs.samples.signed.Statement.{statement}
-use Rattle.replay.proofs.samples.signed.Tie as tie
+use Rattle.replay.proofs.lists.signed.Statement.{statement}
+use Rattle.replay.proofs.lists.signed.Tie as tie
 
 cast-result : tie.Need-cast-result
 cast-result c = search needs

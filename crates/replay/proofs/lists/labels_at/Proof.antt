@@ -2,11 +2,11 @@ use mathlib.Core.Path.{_≡_}
 use Prim.Native.Nat.{_≤_, _-_}
 use lib.ListN.{length}
 use borrow.Author.Needs.{needs}
-use Rattle.replay.proofs.labels.labels_at.Statement.{statement}
-use Rattle.replay.proofs.labels.labels_at.Tie as tie
+use Rattle.replay.proofs.lists.labels_at.Statement.{statement}
+use Rattle.replay.proofs.lists.labels_at.Tie as tie
 
 abbrev Inv-loop : tie.InvT-loop
-Inv-loop s p n labels₀ i₀ labels i = (i ≤ n) × (64 ≡ length labels)
+Inv-loop s p n labels₀ i₀ labels i = (i ≤ n) × (256 ≡ length labels)
 
 abbrev μ-loop : tie.MeasureT-loop
 μ-loop s p n labels₀ i₀ labels i = n - i

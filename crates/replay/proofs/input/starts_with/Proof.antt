@@ -2,10 +2,8 @@ use mathlib.Core.Path.{_≡_}
 use Prim.Native.Nat.{_≤_, _-_, _+_}
 use lib.ListN.{length}
 use borrow.Author.Needs.{needs}
-use Rattle.replay.proofs.samples.starts_with.Statement.{statement}
-use Rattle.replay.proofs.samples.starts_with.Tie as tie
-use Rattle.replay.proofs.samples.starts_with.Reads as reads
-use Rattle.replay.proofs.samples.starts_with.Lts as lts
+use Rattle.replay.proofs.input.starts_with.Statement.{statement}
+use Rattle.replay.proofs.input.starts_with.Tie as tie
 
 abbrev Inv-loop : tie.InvT-loop
 Inv-loop out wanted n i₀ i = i ≤ length wanted

@@ -3,12 +3,8 @@ use mathlib.Core.Path.{_≡_}
 use Prim.Native.Nat.{_≤_, _-_, _+_}
 use lib.ListN.{length, length-set}
 use borrow.Author.Needs.{needs}
-use Rattle.replay.proofs.samples.samples_at.Statement.{statement}
-use Rattle.replay.proofs.samples.samples_at.Tie as tie
-use Rattle.replay.proofs.samples.samples_at.Reads as reads
-use Rattle.replay.proofs.samples.samples_at.Lts as lts
-use Rattle.byteorder.proofs.read.be_u32.Reads as be-u32-reads
-use Rattle.replay.proofs.samples.signed.Reads as signed-reads
+use Rattle.replay.proofs.lists.samples_at.Statement.{statement}
+use Rattle.replay.proofs.lists.samples_at.Tie as tie
 
 abbrev Inv-loop : tie.InvT-loop
 Inv-loop s p n samples₀ i₀ samples i = (i ≤ n) × (16 ≡ length samples)
