@@ -128,6 +128,7 @@ impl Side for Ours {
         request.one(b'L').numbers(labels.iter().copied());
         let pipe = &mut *self.pipe.borrow_mut();
         pipe.ask(&request);
+        assert_eq!(pipe.number(4) as u32, DONE, "known labels, one to a channel");
         Layout { tag: pipe.number(4) as u32, described: pipe.number(4) as u32 }
     }
 
@@ -137,7 +138,13 @@ impl Side for Ours {
         let pipe = &mut *self.pipe.borrow_mut();
         pipe.ask(&request);
         assert_eq!(pipe.number(4) as u32, DONE, "packing with room");
-        pipe.list()
+        let packed = pipe.list();
+        assert_eq!(pipe.number(4) as u32, DONE, "unpacking with room");
+        for &sample in samples {
+            // unpacking gives the low 24 bits back, with their sign
+            assert_eq!(pipe.number(4) as i32, sample << 8 >> 8);
+        }
+        packed
     }
 
     fn run(&self, script: &Script) -> Vec<Step> {
