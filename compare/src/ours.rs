@@ -48,10 +48,10 @@ pub struct Ours {
 }
 
 impl Ours {
-    /// Starts the program, by the command that compare/build left.
-    pub fn start(command: &str) -> Self {
-        let mut child = Command::new("sh")
-            .arg(command)
+    /// Starts the program, on any processor.
+    pub fn start(program: &str) -> Self {
+        let mut child = Command::new("compare/x86")
+            .arg(program)
             .stdin(Stdio::piped())
             .stdout(Stdio::piped())
             .spawn()

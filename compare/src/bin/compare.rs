@@ -1,6 +1,7 @@
 //! Compares our code with the Rust text in 01's domain of equality.
 //!
-//!   compare COMMAND [SEED [ROUNDS]]     COMMAND starts our code; ROUNDS random inputs of each kind after the exhaustive ones
+//!   compare PROGRAM [SEED [ROUNDS]]     PROGRAM is our code behind a pipe; ROUNDS random inputs of each kind
+//!                                       follow the exhaustive ones
 
 use harness::compare::Comparison;
 use harness::known;
@@ -11,7 +12,7 @@ const ROUNDS: u64 = 20_000;
 
 fn main() {
     let mut args = std::env::args().skip(1);
-    let ours = Ours::start(&args.next().expect("the command that starts our code"));
+    let ours = Ours::start(&args.next().expect("the program of our code"));
     let mut numbers = args.map(|arg| arg.parse().expect("a number"));
     let seed = numbers.next().unwrap_or_else(|| u64::from(std::process::id()));
     let rounds = numbers.next().unwrap_or(ROUNDS);

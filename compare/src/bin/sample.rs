@@ -1,4 +1,4 @@
-//! Writes a fixed sample of the Rust text's answers to standard output, as compare/README.md lays it out.
+//! Writes a sample of the Rust text's answers to standard output, as compare/README.md lays it out: sample [SEED].
 //! Only inputs inside 01's domain of equality are in it, so every answer is the text's own.
 
 use std::io::Write;
@@ -13,28 +13,43 @@ use harness::random::Random;
 use harness::script::Script;
 use harness::scripts;
 
+/// Of the sample that is kept.
 const SEED: u64 = 1;
 const RANDOM_FILES: usize = 35;
 const RANDOM_SCRIPTS: usize = 90;
 const RANDOM_SAMPLES: usize = 20;
 
-struct Sample(Vec<Vec<u8>>);
+/// What the replaying program can hold.
+const LONGEST: usize = 65536;
+
+/// The cases so far, and their length with the count in front.
+struct Sample {
+    cases: Vec<Vec<u8>>,
+    length: usize,
+}
 
 impl Sample {
+    fn keep(&mut self, case: Vec<u8>) {
+        if self.length + case.len() <= LONGEST {
+            self.length += case.len();
+            self.cases.push(case);
+        }
+    }
+
     fn file(&mut self, file: Vec<u8>) {
         let reading = Rust.parse(&file);
         if !outside(reading.number) {
-            self.0.push(encode::reading(&file, &reading));
+            self.keep(encode::reading(&file, &reading));
         }
     }
 
     fn labels(&mut self, labels: Vec<u32>) {
-        self.0.push(encode::labels(&labels, &Rust.layout(&labels)));
+        self.keep(encode::labels(&labels, &Rust.layout(&labels)));
     }
 
     fn samples(&mut self, samples: Vec<i32>) {
         for little in [false, true] {
-            self.0.push(encode::samples(&samples, little, &Rust.pack(&samples, little)));
+            self.keep(encode::samples(&samples, little, &Rust.pack(&samples, little)));
         }
     }
 
@@ -42,16 +57,17 @@ impl Sample {
         let steps = Rust.run(&script);
         let inside = steps.iter().all(|step| !outside(step.number));
         if inside && !script.is_empty() {
-            self.0.push(encode::script(&script, &steps));
+            self.keep(encode::script(&script, &steps));
         }
     }
 }
 
 fn main() {
     known::check_all(&Rust);
-    let mut sample = Sample(Vec::new());
+    let mut sample = Sample { cases: Vec::new(), length: size_of::<u32>() };
     let rows = names::rows();
-    let random = &mut Random(SEED);
+    let seed = std::env::args().nth(1).map_or(SEED, |arg| arg.parse().expect("a number"));
+    let random = &mut Random(seed);
 
     for head in files::HEADS {
         sample.file(head.to_vec());
@@ -83,9 +99,9 @@ fn main() {
         sample.script(scripts::random(random, &rows));
     }
 
-    let count = sample.0.len() as u32;
+    let count = sample.cases.len() as u32;
     let mut out = std::io::stdout().lock();
     out.write_all(&count.to_be_bytes()).expect("standard output takes the sample");
-    out.write_all(&sample.0.concat()).expect("standard output takes the sample");
+    out.write_all(&sample.cases.concat()).expect("standard output takes the sample");
     eprintln!("{count} cases");
 }
