@@ -1,8 +1,47 @@
 //! Our code called straight from Rust, for the times: what include/caf.h declares, over slices.
+//! Safety of every call here: each slice is lent with its own length, and none overlaps another.
 
 unsafe extern "C" {
     fn caf_parse(file: *const u8, file_len: usize, out: *mut u64, out_len: usize) -> u32;
     fn caf_read_strict(file: *const u8, file_len: usize, out: *mut u64, out_len: usize) -> u32;
+    fn caf_pack_24(samples: *const i32, count: usize, little: bool, out: *mut u8, out_len: usize) -> u32;
+    fn caf_new(record: *mut u64, record_len: usize) -> u32;
+    fn caf_set_format(
+        record: *mut u64,
+        record_len: usize,
+        rate: f64,
+        channels: u32,
+        bits: u32,
+        is_float: bool,
+        little: bool,
+    ) -> u32;
+    fn caf_configure_format(
+        record: *mut u64,
+        record_len: usize,
+        rate: f64,
+        channels: u32,
+        bits: u32,
+        labels: *const u32,
+        label_count: usize,
+    ) -> u32;
+    fn caf_write_header(record: *mut u64, record_len: usize, buf: *mut u8, buf_len: usize) -> u32;
+    fn caf_write_data(
+        record: *mut u64,
+        record_len: usize,
+        buf: *mut u8,
+        buf_len: usize,
+        bytes: *const u8,
+        count: usize,
+    ) -> u32;
+    fn caf_write_samples(
+        record: *mut u64,
+        record_len: usize,
+        buf: *mut u8,
+        buf_len: usize,
+        samples: *const i32,
+        count: usize,
+    ) -> u32;
+    fn caf_finish(record: *mut u64, record_len: usize, buf: *mut u8, buf_len: usize) -> u32;
 }
 
 const PLACES: usize = 13;
@@ -10,14 +49,56 @@ const PLACES: usize = 13;
 /// The number of the plain reading, and all that it found.
 pub fn plain(file: &[u8]) -> (u32, [u64; PLACES]) {
     let mut found = [0; PLACES];
-    // Safety: both slices are lent with their own lengths.
     let number = unsafe { caf_parse(file.as_ptr(), file.len(), found.as_mut_ptr(), PLACES) };
     (number, found)
 }
 
 pub fn strict(file: &[u8]) -> (u32, [u64; PLACES]) {
     let mut found = [0; PLACES];
-    // Safety: both slices are lent with their own lengths.
     let number = unsafe { caf_read_strict(file.as_ptr(), file.len(), found.as_mut_ptr(), PLACES) };
     (number, found)
+}
+
+pub fn pack(samples: &[i32], little: bool, out: &mut [u8]) -> u32 {
+    unsafe { caf_pack_24(samples.as_ptr(), samples.len(), little, out.as_mut_ptr(), out.len()) }
+}
+
+const RECORD: usize = 82;
+
+/// A writer record as a caller in C keeps it.
+pub struct Writer([u64; RECORD]);
+
+impl Writer {
+    pub fn new() -> Self {
+        let mut record = [0; RECORD];
+        assert_eq!(unsafe { caf_new(record.as_mut_ptr(), RECORD) }, 0);
+        Writer(record)
+    }
+
+    pub fn set_format(&mut self, rate: f64, channels: u32, bits: u32, is_float: bool, little: bool) -> u32 {
+        unsafe { caf_set_format(self.0.as_mut_ptr(), RECORD, rate, channels, bits, is_float, little) }
+    }
+
+    pub fn configure(&mut self, rate: f64, channels: u32, bits: u32, labels: &[u32]) -> u32 {
+        let record = self.0.as_mut_ptr();
+        unsafe { caf_configure_format(record, RECORD, rate, channels, bits, labels.as_ptr(), labels.len()) }
+    }
+
+    pub fn header(&mut self, buf: &mut [u8]) -> u32 {
+        unsafe { caf_write_header(self.0.as_mut_ptr(), RECORD, buf.as_mut_ptr(), buf.len()) }
+    }
+
+    pub fn data(&mut self, buf: &mut [u8], bytes: &[u8]) -> u32 {
+        let record = self.0.as_mut_ptr();
+        unsafe { caf_write_data(record, RECORD, buf.as_mut_ptr(), buf.len(), bytes.as_ptr(), bytes.len()) }
+    }
+
+    pub fn samples(&mut self, buf: &mut [u8], samples: &[i32]) -> u32 {
+        let record = self.0.as_mut_ptr();
+        unsafe { caf_write_samples(record, RECORD, buf.as_mut_ptr(), buf.len(), samples.as_ptr(), samples.len()) }
+    }
+
+    pub fn finish(&mut self, buf: &mut [u8]) -> u32 {
+        unsafe { caf_finish(self.0.as_mut_ptr(), RECORD, buf.as_mut_ptr(), buf.len()) }
+    }
 }
