@@ -22,7 +22,7 @@ const RANDOM_SAMPLES: usize = 20;
 /// What the replaying program can hold.
 const LONGEST: usize = 65536;
 
-/// The cases so far, and their length with the count in front.
+/// The cases so far, and their length.
 struct Sample {
     cases: Vec<Vec<u8>>,
     length: usize,
@@ -64,7 +64,7 @@ impl Sample {
 
 fn main() {
     known::check_all(&Rust);
-    let mut sample = Sample { cases: Vec::new(), length: size_of::<u32>() };
+    let mut sample = Sample { cases: Vec::new(), length: 0 };
     let rows = names::rows();
     let seed = std::env::args().nth(1).map_or(SEED, |arg| arg.parse().expect("a number"));
     let random = &mut Random(seed);
@@ -99,9 +99,6 @@ fn main() {
         sample.script(scripts::random(random, &rows));
     }
 
-    let count = sample.cases.len() as u32;
-    let mut out = std::io::stdout().lock();
-    out.write_all(&count.to_be_bytes()).expect("standard output takes the sample");
-    out.write_all(&sample.cases.concat()).expect("standard output takes the sample");
-    eprintln!("{count} cases");
+    std::io::stdout().write_all(&sample.cases.concat()).expect("standard output takes the sample");
+    eprintln!("{} cases", sample.cases.len());
 }

@@ -50,7 +50,7 @@ fn replay(s: &[u8]) -> Tally {
         same: 0,
         different: 0,
     };
-    let mut at: usize = 4;
+    let mut at: usize = 0;
     while at < s.len() {
         if s.len() - at < CASE_HEAD {
             return counted(tally, false);
