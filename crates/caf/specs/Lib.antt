@@ -1,0 +1,2 @@
+pub mod FormatNumbers
+pub mod ReadingNumbers

@@ -1,0 +1,41 @@
+-- The numbers of a reading's answer, as they go to a lent array. The first is always the count of chunk headers met.
+use Prim.Native.Nat.{ℕ}
+use mathlib.Core.Bool.{cond}
+use mathlib.Core.List.{List, [], _∷_, _++_}
+use lib.ListN.{length}
+use lib.Dec.{ltb}
+use Rattle.answers.specs.Numbers.{noRoom}
+use Rattle.byteorder.specs.Splice.{splice}
+use Rattle.reading.specs.declared.PlainAnswer.{PlainAnswer}
+use Rattle.reading.specs.declared.PlainAnswer.the-variants.{Found, NotRead}
+use Rattle.reading.specs.declared.StrictAnswer.{StrictAnswer}
+use Rattle.reading.specs.declared.StrictAnswer.the-variants.{Accepted, Rejected}
+use Rattle.caf.specs.FormatNumbers.{audioNumbers, formatNumbers, orderNumber}
+
+-- 01, Numbers given back: a refused reading has its count and nothing else
+abbrev pub plainNumbers : PlainAnswer → List ℕ
+plainNumbers (Found info k) =
+    (k ∷ formatNumbers (info .format))
+    ++ (orderNumber (info .endianness) ∷ info .«size_position» ∷ info .«data_start» ∷ [])
+plainNumbers (NotRead number k) = k ∷ []
+
+abbrev pub strictNumbers : StrictAnswer → List ℕ
+strictNumbers (Accepted v k) =
+    (k ∷ audioNumbers (v .format))
+    ++ (v .«size_position» ∷ v .«data_start» ∷ v .payload ∷ cond (v .«open») 1 0 ∷ v .frames ∷ [])
+strictNumbers (Rejected number k) = k ∷ []
+
+-- how many numbers an accepted file has
+abbrev pub plainPlaces : ℕ
+plainPlaces = 12
+
+abbrev pub strictPlaces : ℕ
+strictPlaces = 13
+
+-- an array with fewer places than an accepted file has numbers is refused (NoRoom), whatever the file says
+abbrev pub numberGiven : ℕ → List ℕ → ℕ → ℕ
+numberGiven places out number = cond (ltb (length out) places) noRoom number
+
+-- the array afterwards: the numbers from its start on, and all other places as they were
+abbrev pub lentAfter : ℕ → List ℕ → List ℕ → List ℕ
+lentAfter places out numbers = cond (ltb (length out) places) out (splice out 0 numbers)

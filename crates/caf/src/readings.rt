@@ -1,0 +1,108 @@
+// The two readings, for C: the answer's number is returned, its other numbers go to a lent array.
+use crate::format_numbers::audio_numbers;
+use crate::format_numbers::format_numbers;
+use crate::format_numbers::order_number;
+use crate::numbers::flag;
+use crate::numbers::put;
+use answers::DONE;
+use answers::NO_ROOM;
+use reading::CAFFileInfo;
+use reading::PlainAnswer;
+use reading::StrictAnswer;
+use reading::StrictInfo;
+use reading::plain::parse_caf_file;
+use reading::strict::read_strict;
+ghost use mathlib.Core.Path.{_≡_};
+ghost use Prim.Native.Nat.{_≤_};
+ghost use lib.ListN.{length};
+ghost use Rattle.byteorder.specs.Splice.{splice};
+ghost use Rattle.reading.specs.Answers.{plainNumber, strictNumber};
+ghost use Rattle.reading.specs.Plain.{plain};
+ghost use Rattle.reading.specs.Strict.{strict};
+ghost use Rattle.reading.specs.declared.PlainAnswer.the-variants.{Found as plain·Found};
+ghost use Rattle.reading.specs.declared.StrictAnswer.the-variants.{Accepted as strict·Accepted};
+ghost use Rattle.caf.specs.ReadingNumbers.{plainPlaces, strictPlaces, plainNumbers, strictNumbers, numberGiven, lentAfter};
+
+const PLAIN_PLACES: usize = 12;
+
+const STRICT_PLACES: usize = 13;
+
+fn put_found(out: &mut [u64], info: CAFFileInfo, chunks: usize)
+    requires { ⌜ plainPlaces ≤ length (now out) ⌝ }
+    ensures { λ _. ⌜ now (out .exit) ≡ splice (now (out .entry)) 0 (plainNumbers (plain·Found info chunks)) ⌝ }
+{
+    let count = [chunks as u64];
+    put(out, 0, &count);
+    let format = info.format;
+    let numbers = format_numbers(format);
+    put(out, 1, &numbers);
+    let endianness = info.endianness;
+    let places = [
+        order_number(endianness),
+        info.size_position as u64,
+        info.data_start as u64,
+    ];
+    put(out, 9, &places);
+}
+
+fn put_accepted(out: &mut [u64], info: StrictInfo, chunks: usize)
+    requires { ⌜ strictPlaces ≤ length (now out) ⌝ }
+    ensures { λ _. ⌜ now (out .exit) ≡ splice (now (out .entry)) 0 (strictNumbers (strict·Accepted info chunks)) ⌝ }
+{
+    let count = [chunks as u64];
+    put(out, 0, &count);
+    let numbers = audio_numbers(info.format);
+    put(out, 1, &numbers);
+    let places = [
+        info.size_position as u64,
+        info.data_start as u64,
+        info.payload as u64,
+        flag(info.open),
+        info.frames as u64,
+    ];
+    put(out, 8, &places);
+}
+
+#[no_mangle]
+pub extern "C" fn caf_parse(file: &[u8], out: &mut [u64]) -> u32
+    ensures { λ r. ⌜ r ≡ numberGiven plainPlaces (now (out .entry)) (plainNumber (plain (now (file .entry)))) ⌝ }
+    ensures { λ _. ⌜ now (out .exit) ≡ lentAfter plainPlaces (now (out .entry)) (plainNumbers (plain (now (file .entry)))) ⌝ }
+{
+    if out.len() < PLAIN_PLACES {
+        return NO_ROOM;
+    }
+    let answer = parse_caf_file(file);
+    match answer {
+        PlainAnswer::NotRead(number, chunks) => {
+            let count = [chunks as u64];
+            put(out, 0, &count);
+            number
+        }
+        PlainAnswer::Found(info, chunks) => {
+            put_found(out, info, chunks);
+            DONE
+        }
+    }
+}
+
+#[no_mangle]
+pub extern "C" fn caf_read_strict(file: &[u8], out: &mut [u64]) -> u32
+    ensures { λ r. ⌜ r ≡ numberGiven strictPlaces (now (out .entry)) (strictNumber (strict (now (file .entry)))) ⌝ }
+    ensures { λ _. ⌜ now (out .exit) ≡ lentAfter strictPlaces (now (out .entry)) (strictNumbers (strict (now (file .entry)))) ⌝ }
+{
+    if out.len() < STRICT_PLACES {
+        return NO_ROOM;
+    }
+    let answer = read_strict(file);
+    match answer {
+        StrictAnswer::Rejected(number, chunks) => {
+            let count = [chunks as u64];
+            put(out, 0, &count);
+            number
+        }
+        StrictAnswer::Accepted(info, chunks) => {
+            put_accepted(out, info, chunks);
+            DONE
+        }
+    }
+}
