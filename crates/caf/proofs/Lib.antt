@@ -1,2 +1,4 @@
 pub mod FormatLaws
 pub mod RatePatterns
+pub mod Words
+pub mod Records

@@ -1,8 +1,8 @@
--- What the answer for a rate tells of its 64 bits.
-use mathlib.Core.Path.{_≡_, refl}
+-- A rate and its 64 bits where one of them is a not-a-number.
+use mathlib.Core.Path.{_≡_, refl, sym, _∙_}
 use mathlib.Core.Bool.{Bool, true, false, cond}
 use Prim.Native.Nat.{ℕ}
-use lib.Ieee.{Float, nan, inf, fin, isNan, toBits, binary64}
+use lib.Ieee.{Float, nan, inf, fin, isNan, toBits, ofBits, ofFields, odd, div, binary64}
 use Rattle.byteorder.specs.Rate.{rateBits}
 use Rattle.byteorder.specs.RateAnswers.{bitsFrom}
 use Rattle.byteorder.specs.declared.RateBits.{RateBits}
@@ -21,3 +21,14 @@ unfolding isNan toBits
 bits-refused nan e = refl
 bits-refused (inf s) e = cc
 bits-refused (fin s m x) e = cc
+
+is-nan : (x : Float) → isNan x ≡ true → nan ≡ x
+unfolding isNan
+is-nan nan e = refl
+is-nan (inf s) e = cc
+is-nan (fin s m x) e = cc
+
+-- 0.0 / 0.0 is the not-a-number
+pub zero-by-zero : (x : Float) → isNan x ≡ true → div binary64 (ofBits binary64 0) (ofBits binary64 0) ≡ x
+unfolding div ofBits ofFields odd
+zero-by-zero x e = is-nan x e

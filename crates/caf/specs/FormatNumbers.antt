@@ -1,5 +1,6 @@
 -- A format as C sees it: numbers of 64 bits.
 use Prim.Native.Nat.{ℕ}
+use mathlib.Core.Bool.{Bool, cond}
 use mathlib.Core.List.{List, [], _∷_}
 use lib.ListN.{replicate}
 use Rattle.byteorder.specs.Rate.{rateBits}
@@ -8,6 +9,9 @@ use Rattle.format.specs.declared.MaybeFormat.{MaybeFormat}
 use Rattle.format.specs.declared.MaybeFormat.the-variants.{Absent, Present}
 use Rattle.format.specs.declared.Endianness.{Endianness}
 use Rattle.format.specs.declared.Endianness.the-variants.{BigEndian, LittleEndian}
+
+abbrev pub flagNumber : Bool → ℕ
+flagNumber b = cond b 1 0
 
 -- the bits of the rate and the six numbers behind it, in the order of a `desc`
 abbrev pub audioNumbers : AudioFormat → List ℕ

@@ -1,2 +1,3 @@
 pub mod FormatNumbers
 pub mod ReadingNumbers
+pub mod RecordNumbers

@@ -10,7 +10,7 @@ use Rattle.reading.specs.declared.PlainAnswer.{PlainAnswer}
 use Rattle.reading.specs.declared.PlainAnswer.the-variants.{Found, NotRead}
 use Rattle.reading.specs.declared.StrictAnswer.{StrictAnswer}
 use Rattle.reading.specs.declared.StrictAnswer.the-variants.{Accepted, Rejected}
-use Rattle.caf.specs.FormatNumbers.{audioNumbers, formatNumbers, orderNumber}
+use Rattle.caf.specs.FormatNumbers.{flagNumber, audioNumbers, formatNumbers, orderNumber}
 
 -- 01, Numbers given back: a refused reading has its count and nothing else
 abbrev pub plainNumbers : PlainAnswer → List ℕ
@@ -22,7 +22,7 @@ plainNumbers (NotRead number k) = k ∷ []
 abbrev pub strictNumbers : StrictAnswer → List ℕ
 strictNumbers (Accepted v k) =
     (k ∷ audioNumbers (v .format))
-    ++ (v .«size_position» ∷ v .«data_start» ∷ v .payload ∷ cond (v .«open») 1 0 ∷ v .frames ∷ [])
+    ++ (v .«size_position» ∷ v .«data_start» ∷ v .payload ∷ flagNumber (v .«open») ∷ v .frames ∷ [])
 strictNumbers (Rejected number k) = k ∷ []
 
 -- how many numbers an accepted file has

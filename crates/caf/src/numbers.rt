@@ -2,8 +2,8 @@
 ghost use mathlib.Core.Path.{_≡_};
 ghost use Prim.Native.Nat.{_+_, _≤_};
 ghost use lib.ListN.{length};
-ghost use mathlib.Core.Bool.{cond};
 ghost use Rattle.byteorder.specs.Splice.{splice};
+ghost use Rattle.caf.specs.FormatNumbers.{flagNumber};
 
 pub(crate) fn put(out: &mut [u64], at: usize, numbers: &[u64])
     requires { ⌜ at + length (now numbers) ≤ length (now out) ⌝ }
@@ -18,7 +18,7 @@ pub(crate) fn put(out: &mut [u64], at: usize, numbers: &[u64])
 
 // 1 for true and 0 for false.
 pub(crate) fn flag(on: bool) -> u64
-    ensures { λ r. ⌜ r ≡ cond on 1 0 ⌝ }
+    ensures { λ r. ⌜ r ≡ flagNumber on ⌝ }
 {
     if on {
         return 1;

@@ -1,0 +1,39 @@
+-- What is known of an array that stands for a record.
+use mathlib.Core.Path.{_≡_}
+use mathlib.Core.Bool.{Bool, true, _&&_}
+use mathlib.Core.List.{List}
+use Prim.Native.Nat.{ℕ, _<_}
+use lib.Dec.{eqb}
+use lib.ListN.{length}
+use borrow.Author.Tests.{eqb-true, ltb-true}
+use Rattle.caf.specs.RecordNumbers.{recordPlaces, at, isFlag, allWords, labelsIn, formatFits, layoutFits, isRecord}
+use Rattle.caf.proofs.Words.{both}
+
+pub record IsRecord (ns : List ℕ) : Type 0 where
+  pub places : length ns ≡ recordPlaces
+  pub format : formatFits ns ≡ true
+  pub order : at ns 8 < 2
+  pub layout : layoutFits ns ≡ true
+  pub labels : allWords (labelsIn ns) ≡ true
+  pub header : at ns 76 < 2
+  pub finished : at ns 81 < 2
+
+pub is-record : (ns : List ℕ) → isRecord ns ≡ true → IsRecord ns
+unfolding isRecord
+is-record ns e =
+    let a = eqb (length ns) recordPlaces in
+    let e₆ = both _ (isFlag (at ns 81)) e in
+    let e₅ = both _ (isFlag (at ns 76)) (e₆ .0) in
+    let e₄ = both _ (allWords (labelsIn ns)) (e₅ .0) in
+    let e₃ = both _ (layoutFits ns) (e₄ .0) in
+    let e₂ = both _ (isFlag (at ns 8)) (e₃ .0) in
+    let e₁ = both a (formatFits ns) (e₂ .0) in
+    record {
+      places = eqb-true _ _ (e₁ .0);
+      format = e₁ .1;
+      order = ltb-true _ _ (e₂ .1);
+      layout = e₃ .1;
+      labels = e₄ .1;
+      header = ltb-true _ _ (e₅ .1);
+      finished = ltb-true _ _ (e₆ .1);
+    }
