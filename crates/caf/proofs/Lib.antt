@@ -2,3 +2,4 @@ pub mod FormatLaws
 pub mod RatePatterns
 pub mod Words
 pub mod Records
+pub mod Puts

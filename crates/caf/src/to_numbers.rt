@@ -1,11 +1,11 @@
 // The writer record put back into the array that a caller keeps.
 use crate::format_numbers::format_numbers;
 use crate::format_numbers::order_number;
-use crate::from_numbers::LABELS;
-use crate::from_numbers::NO_TAG;
 use crate::from_numbers::DESCRIBED;
 use crate::from_numbers::HAS_HEADER;
+use crate::from_numbers::LABELS;
 use crate::from_numbers::NO_LAYOUT;
+use crate::from_numbers::NO_TAG;
 use crate::from_numbers::ORDER;
 use crate::from_numbers::TAGGED;
 use crate::numbers::flag;

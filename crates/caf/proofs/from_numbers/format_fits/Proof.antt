@@ -3,29 +3,21 @@ use borrow.Author.Tests.{eq-eqb, ne-eqb}
 use borrow.Author.Needs.{needs}
 use Rattle.caf.proofs.from_numbers.format_fits.Statement.{statement}
 use Rattle.caf.proofs.from_numbers.format_fits.Tie as tie
-use Rattle.caf.proofs.from_numbers.format_fits.Reads as reads
-use Rattle.caf.proofs.from_numbers.format_fits.Lts as lts
-use Rattle.caf.proofs.from_numbers.words.Reads as words-reads
 
--- src/from_numbers.rt:60:15
 shared-slice-read-has : tie.Need-shared-slice-read-has
 shared-slice-read-has c = search needs
 
--- src/from_numbers.rt:62:9
 returns : tie.Need-returns
 unfolding formatFits
 returns c = rw (eq-eqb _ _ (c .if1 .taken))
 
--- src/from_numbers.rt:65:9
 words-requires : tie.Need-words-requires
 words-requires c κs = search needs
 
--- src/from_numbers.rt:65:9
 returns-2 : tie.Need-returns-2
 unfolding formatFits
 returns-2 c = rw (ne-eqb _ _ (c .before .before .if1 .left), eq-eqb _ _ (c .before .if2 .taken)) (c .words .ensures)
 
--- src/from_numbers.rt:56:1
 returns-3 : tie.Need-returns-3
 unfolding formatFits
 returns-3 c = rw (ne-eqb _ _ (c .before .if1 .left), ne-eqb _ _ (c .if2 .left))

@@ -5,52 +5,37 @@ use native.Mathlib.Omega.{arith}
 use borrow.Author.Needs.{needs}
 use Rattle.caf.proofs.from_numbers.format_of.Statement.{statement}
 use Rattle.caf.proofs.from_numbers.format_of.Tie as tie
-use Rattle.caf.proofs.from_numbers.format_of.Reads as reads
-use Rattle.caf.proofs.from_numbers.format_of.Lts as lts
-use Rattle.caf.proofs.from_numbers.rate_of.Reads as rate-of-reads
-use Rattle.caf.proofs.from_numbers.word.Reads as word-reads
 
--- src/from_numbers.rt:128:8
 shared-slice-read-if1 : tie.Need-shared-slice-read-if1
 shared-slice-read-if1 c = search needs
 
--- src/from_numbers.rt:129:9
 returns : tie.Need-returns
 returns c = rw (eq-eqb _ _ (c .if1 .taken))
 
--- src/from_numbers.rt:132:30
 shared-slice-read-rate-of : tie.Need-shared-slice-read-rate-of
 shared-slice-read-rate-of c = search needs
 
--- src/from_numbers.rt:132:22
 rate-of-requires : tie.Need-rate-of-requires
 rate-of-requires c κs = search needs
 
--- src/from_numbers.rt:133:20
 word-requires : tie.Need-word-requires
 word-requires c κs = (search needs, format-words _ (c .before .before .before .before .before .pre .0) (c .before .before .before .before .before .pre .1) (c .before .before .if1 .left) 0 (omega arith))
 
--- src/from_numbers.rt:134:23
 word-requires-2 : tie.Need-word-requires-2
 word-requires-2 c κs = (search needs, format-words _ (c .before .before .before .before .before .before .pre .0) (c .before .before .before .before .before .before .pre .1) (c .before .before .before .if1 .left) 1 (omega arith))
 
--- src/from_numbers.rt:135:27
 word-requires-3 : tie.Need-word-requires-3
 word-requires-3 c κs = (search needs, format-words _ (c .before .before .before .before .before .before .before .pre .0) (c .before .before .before .before .before .before .before .pre .1) (c .before .before .before .before .if1 .left) 2 (omega arith))
 
--- src/from_numbers.rt:136:28
 word-requires-4 : tie.Need-word-requires-4
 word-requires-4 c κs = (search needs, format-words _ (c .before .before .before .before .before .before .before .before .pre .0) (c .before .before .before .before .before .before .before .before .pre .1) (c .before .before .before .before .before .if1 .left) 3 (omega arith))
 
--- src/from_numbers.rt:137:29
 word-requires-5 : tie.Need-word-requires-5
 word-requires-5 c κs = (search needs, format-words _ (c .before .before .before .before .before .before .before .before .before .pre .0) (c .before .before .before .before .before .before .before .before .before .pre .1) (c .before .before .before .before .before .before .if1 .left) 4 (omega arith))
 
--- src/from_numbers.rt:138:27
 word-requires-6 : tie.Need-word-requires-6
 word-requires-6 c κs = (search needs, format-words _ (c .before .before .before .before .before .before .before .before .before .before .pre .0) (c .before .before .before .before .before .before .before .before .before .before .pre .1) (c .before .before .before .before .before .before .before .if1 .left) 5 (omega arith))
 
--- src/from_numbers.rt:124:1
 returns-2 : tie.Need-returns-2
 returns-2 c = rw (ne-eqb _ _ (c .before .before .before .before .before .before .before .before .if1 .left), c .before .before .before .before .before .before .rate-of .ensures, c .before .before .before .before .before .word .ensures, c .before .before .before .before .word2 .ensures, c .before .before .before .word3 .ensures, c .before .before .word4 .ensures, c .before .word5 .ensures, c .word6 .ensures)
 

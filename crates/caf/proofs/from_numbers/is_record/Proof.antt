@@ -4,67 +4,49 @@ use borrow.Author.Tests.{eq-eqb, ne-eqb, lt-ltb, le-ltb, not-true, not-false}
 use borrow.Author.Needs.{needs}
 use Rattle.caf.proofs.from_numbers.is_record.Statement.{statement}
 use Rattle.caf.proofs.from_numbers.is_record.Tie as tie
-use Rattle.caf.proofs.from_numbers.is_record.Reads as reads
-use Rattle.caf.proofs.from_numbers.is_record.Lts as lts
-use Rattle.caf.proofs.from_numbers.format_fits.Reads as format-fits-reads
-use Rattle.caf.proofs.from_numbers.layout_fits.Reads as layout-fits-reads
-use Rattle.caf.proofs.from_numbers.words.Reads as words-reads
 
--- src/from_numbers.rt:86:9
 returns : tie.Need-returns
 unfolding isRecord
 returns c = rw (ne-eqb _ _ (c .if1 .taken))
 
--- src/from_numbers.rt:88:9
 format-fits-requires : tie.Need-format-fits-requires
 format-fits-requires c κs = search needs
 
--- src/from_numbers.rt:89:9
 returns-2 : tie.Need-returns-2
 unfolding isRecord
 returns-2 c = rw (eq-eqb _ _ (c .before .before .if1 .left), sym (c .before .format-fits .ensures) ∙ not-true _ (c .if2 .taken))
 
--- src/from_numbers.rt:91:13
 shared-slice-read-if3 : tie.Need-shared-slice-read-if3
 shared-slice-read-if3 c = search needs
 
--- src/from_numbers.rt:92:9
 returns-3 : tie.Need-returns-3
 unfolding isRecord
 returns-3 c = rw (eq-eqb _ _ (c .before .before .before .before .if1 .left), sym (c .before .before .before .format-fits .ensures) ∙ not-false _ (c .before .before .if2 .left), le-ltb _ _ (c .if3 .taken))
 
--- src/from_numbers.rt:94:9
 layout-fits-requires : tie.Need-layout-fits-requires
 layout-fits-requires c κs = search needs
 
--- src/from_numbers.rt:95:9
 returns-4 : tie.Need-returns-4
 unfolding isRecord
 returns-4 c = rw (eq-eqb _ _ (c .before .before .before .before .before .before .if1 .left), sym (c .before .before .before .before .before .format-fits .ensures) ∙ not-false _ (c .before .before .before .before .if2 .left), lt-ltb _ _ (c .before .before .if3 .left), sym (c .before .layout-fits .ensures) ∙ not-true _ (c .if4 .taken))
 
--- src/from_numbers.rt:97:9
 words-requires : tie.Need-words-requires
 words-requires c κs = search needs
 
--- src/from_numbers.rt:98:9
 returns-5 : tie.Need-returns-5
 unfolding isRecord
 returns-5 c = rw (eq-eqb _ _ (c .before .before .before .before .before .before .before .before .if1 .left), sym (c .before .before .before .before .before .before .before .format-fits .ensures) ∙ not-false _ (c .before .before .before .before .before .before .if2 .left), lt-ltb _ _ (c .before .before .before .before .if3 .left), sym (c .before .before .before .layout-fits .ensures) ∙ not-false _ (c .before .before .if4 .left), sym (c .before .words .ensures) ∙ not-true _ (c .if5 .taken))
 
--- src/from_numbers.rt:100:13
 shared-slice-read-if6 : tie.Need-shared-slice-read-if6
 shared-slice-read-if6 c = search needs
 
--- src/from_numbers.rt:101:9
 returns-6 : tie.Need-returns-6
 unfolding isRecord
 returns-6 c = rw (eq-eqb _ _ (c .before .before .before .before .before .before .before .before .before .before .if1 .left), sym (c .before .before .before .before .before .before .before .before .before .format-fits .ensures) ∙ not-false _ (c .before .before .before .before .before .before .before .before .if2 .left), lt-ltb _ _ (c .before .before .before .before .before .before .if3 .left), sym (c .before .before .before .before .before .layout-fits .ensures) ∙ not-false _ (c .before .before .before .before .if4 .left), sym (c .before .before .before .words .ensures) ∙ not-false _ (c .before .before .if5 .left), le-ltb _ _ (c .if6 .taken))
 
--- src/from_numbers.rt:103:5
 shared-slice-read-result : tie.Need-shared-slice-read-result
 shared-slice-read-result c = search needs
 
--- src/from_numbers.rt:82:1
 returns-7 : tie.Need-returns-7
 unfolding isRecord
 returns-7 c = rw (eq-eqb _ _ (c .before .before .before .before .before .before .before .before .before .before .before .if1 .left), sym (c .before .before .before .before .before .before .before .before .before .before .format-fits .ensures) ∙ not-false _ (c .before .before .before .before .before .before .before .before .before .if2 .left), lt-ltb _ _ (c .before .before .before .before .before .before .before .if3 .left), sym (c .before .before .before .before .before .before .layout-fits .ensures) ∙ not-false _ (c .before .before .before .before .before .if4 .left), sym (c .before .before .before .before .words .ensures) ∙ not-false _ (c .before .before .before .if5 .left), lt-ltb _ _ (c .before .if6 .left))

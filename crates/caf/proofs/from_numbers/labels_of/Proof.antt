@@ -12,9 +12,6 @@ use mathlib.Core.Path.{_≡_, refl, _∙_}
 use borrow.Author.Needs.{needs}
 use Rattle.caf.proofs.from_numbers.labels_of.Statement.{statement}
 use Rattle.caf.proofs.from_numbers.labels_of.Tie as tie
-use Rattle.caf.proofs.from_numbers.labels_of.Reads as reads
-use Rattle.caf.proofs.from_numbers.labels_of.Lts as lts
-use Rattle.caf.proofs.from_numbers.word.Reads as word-reads
 
 abbrev Inv-loop : tie.InvT-loop
 Inv-loop numbers labels₀ i₀ labels i = (i ≤ 64) × (length labels ≡ length labels₀) × (labels ≡ take i (drop 12 numbers) ++ drop i labels₀)
@@ -22,45 +19,36 @@ Inv-loop numbers labels₀ i₀ labels i = (i ≤ 64) × (length labels ≡ leng
 abbrev μ-loop : tie.MeasureT-loop
 μ-loop numbers labels₀ i₀ labels i = 64 - i
 
--- src/from_numbers.rt:171:5
 loop-holds : tie.Need-loop-holds Inv-loop μ-loop
 loop-holds c = (omega arith, refl, refl)
 
--- src/from_numbers.rt:172:35
 add-word : tie.Need-add-word Inv-loop μ-loop
 add-word c = search needs
 
--- src/from_numbers.rt:172:21
 word-requires : tie.Need-word-requires Inv-loop μ-loop
 word-requires c κs = (search needs, part-at (c .before .before .before .args .numbers .now) 12 64 (omega arith) (c .before .before .before .pre .1) (c .before .loop .i) (c .loop-test .taken))
 
--- src/from_numbers.rt:172:9
 mul-labels : tie.Need-mul-labels Inv-loop μ-loop
 mul-labels c = search needs
 
--- src/from_numbers.rt:172:9
 array-write-labels : tie.Need-array-write-labels Inv-loop μ-loop
 array-write-labels c = search needs
 
--- src/from_numbers.rt:173:9
 add-i : tie.Need-add-i Inv-loop μ-loop
 add-i c = search needs
 
--- src/from_numbers.rt:171:5
 loop-less : tie.Need-loop-less Inv-loop μ-loop
 loop-less c = search needs
 
--- src/from_numbers.rt:171:5
 loop-again : tie.Need-loop-again Inv-loop μ-loop
-loop-again c = 
+loop-again c =
     let l = c .before .before .loop in
     let s = c .before .before .before .before .args .numbers .now in
     let hs : l .i < length (drop 12 s) = simp length-drop (omega arith) in
     (omega arith, simp length-set (l .inv .1), rw (c .word .ensures, add-one, l .inv .2, ← getD-drop) (filled _ (drop 12 s) (l .i) (c .before .loop-test .taken) hs))
 
--- src/from_numbers.rt:165:1
 returns : tie.Need-returns Inv-loop μ-loop
-returns c = 
+returns c =
     let l = c .before .loop in
     let e : l .i ≡ 64 = omega arith in
     l .inv .2 ∙ rw (e, append-nil)

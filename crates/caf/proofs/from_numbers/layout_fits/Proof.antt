@@ -3,23 +3,17 @@ use borrow.Author.Tests.{eq-eqb, ne-eqb}
 use borrow.Author.Needs.{needs}
 use Rattle.caf.proofs.from_numbers.layout_fits.Statement.{statement}
 use Rattle.caf.proofs.from_numbers.layout_fits.Tie as tie
-use Rattle.caf.proofs.from_numbers.layout_fits.Reads as reads
-use Rattle.caf.proofs.from_numbers.layout_fits.Lts as lts
 
--- src/from_numbers.rt:74:16
 shared-slice-read-kind : tie.Need-shared-slice-read-kind
 shared-slice-read-kind c = search needs
 
--- src/from_numbers.rt:76:16
 shared-slice-read-result : tie.Need-shared-slice-read-result
 shared-slice-read-result c = search needs
 
--- src/from_numbers.rt:76:9
 returns : tie.Need-returns
 unfolding layoutFits
 returns c = rw (eq-eqb _ _ (c .before .if1 .taken))
 
--- src/from_numbers.rt:70:1
 returns-2 : tie.Need-returns-2
 unfolding layoutFits
 returns-2 c = rw (ne-eqb _ _ (c .if1 .left))

@@ -1,14 +1,10 @@
 use borrow.Author.Tests.{eq-eqb, ne-eqb}
 use Rattle.caf.proofs.from_numbers.order_of.Statement.{statement}
 use Rattle.caf.proofs.from_numbers.order_of.Tie as tie
-use Rattle.caf.proofs.from_numbers.order_of.Reads as reads
-use Rattle.caf.proofs.from_numbers.order_of.Lts as lts
 
--- src/from_numbers.rt:146:9
 returns : tie.Need-returns
 returns c = rw (eq-eqb _ _ (c .if1 .taken))
 
--- src/from_numbers.rt:142:1
 returns-2 : tie.Need-returns-2
 returns-2 c = rw (ne-eqb _ _ (c .if1 .left))
 

@@ -7,8 +7,6 @@ use mathlib.Core.Path.{_≡_, sym}
 use borrow.Author.Needs.{needs}
 use Rattle.caf.proofs.from_numbers.words.Statement.{statement}
 use Rattle.caf.proofs.from_numbers.words.Tie as tie
-use Rattle.caf.proofs.from_numbers.words.Reads as reads
-use Rattle.caf.proofs.from_numbers.words.Lts as lts
 
 abbrev Inv-loop : tie.InvT-loop
 Inv-loop numbers from n i₀ i = (i ≤ n) × ((k : ℕ) → k < i → getD numbers (from + k) 0 < 2 ^ 32)
@@ -16,39 +14,30 @@ Inv-loop numbers from n i₀ i = (i ≤ n) × ((k : ℕ) → k < i → getD numb
 abbrev μ-loop : tie.MeasureT-loop
 μ-loop numbers from n i₀ i = n - i
 
--- src/from_numbers.rt:47:5
 loop-holds : tie.Need-loop-holds Inv-loop μ-loop
 loop-holds c = search needs
 
--- src/from_numbers.rt:48:29
 add-if1 : tie.Need-add-if1 Inv-loop μ-loop
 add-if1 c = search needs
 
--- src/from_numbers.rt:48:21
 mul-if1 : tie.Need-mul-if1 Inv-loop μ-loop
 mul-if1 c = search needs
 
--- src/from_numbers.rt:48:21
 shared-slice-read-if1 : tie.Need-shared-slice-read-if1 Inv-loop μ-loop
 shared-slice-read-if1 c = search needs
 
--- src/from_numbers.rt:49:13
 returns : tie.Need-returns Inv-loop μ-loop
 returns c = let a = c .before .before .before .before .args in sym (part-no (a .numbers .now) (a .from) (a .n) (c .before .before .before .before .pre) (c .before .before .before .loop .i) (c .before .before .loop-test .taken) (c .if1 .taken))
 
--- src/from_numbers.rt:51:9
 add-i : tie.Need-add-i Inv-loop μ-loop
 add-i c = search needs
 
--- src/from_numbers.rt:47:5
 loop-less : tie.Need-loop-less Inv-loop μ-loop
 loop-less c = search needs
 
--- src/from_numbers.rt:47:5
 loop-again : tie.Need-loop-again Inv-loop μ-loop
 loop-again c = (search needs, below-more _ _ (c .before .before .before .loop .inv .1) (c .if1 .left))
 
--- src/from_numbers.rt:42:1
 returns-2 : tie.Need-returns-2 Inv-loop μ-loop
 returns-2 c = let a = c .before .before .args in let l = c .before .loop in sym (part-all (a .numbers .now) (a .from) (a .n) (c .before .before .pre) (λ k h. l .inv .1 k (omega arith)))
 

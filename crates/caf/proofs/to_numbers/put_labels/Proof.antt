@@ -1,61 +1,63 @@
+use lib.Seq.{paste, paste-zero, paste-suc, take-length}
+use lib.ListN.{length, length-set}
+use native.Mathlib.Omega.{arith}
+use native.Mathlib.Numerals.{add-one}
+use mathlib.Core.Path.{_≡_, refl, _∙_}
+use Prim.Native.Nat.{_≤_, _<_, _-_, _+_}
+use borrow.Author.Needs.{needs}
 use Rattle.caf.proofs.to_numbers.put_labels.Statement.{statement}
 use Rattle.caf.proofs.to_numbers.put_labels.Tie as tie
-use Rattle.caf.proofs.to_numbers.put_labels.Reads as reads
-use Rattle.caf.proofs.to_numbers.put_labels.Lts as lts
 
 abbrev Inv-loop : tie.InvT-loop
-Inv-loop out₀ labels i₀ out i = ?
+Inv-loop out₀ labels i₀ out i = (i ≤ length labels) × (length out ≡ length out₀) × (out ≡ paste out₀ 12 labels i)
 
 abbrev μ-loop : tie.MeasureT-loop
-μ-loop out₀ labels i₀ out i = ?
+μ-loop out₀ labels i₀ out i = length labels - i
 
--- src/to_numbers.rt:46:5
 loop-holds : tie.Need-loop-holds Inv-loop μ-loop
-loop-holds c = ?
+loop-holds c = (omega arith, refl, paste-zero (c .args .out .now) 12 (c .args .labels .now))
 
--- src/to_numbers.rt:47:27
 mul-out : tie.Need-mul-out Inv-loop μ-loop
-mul-out c = ?
+mul-out c = search needs
 
--- src/to_numbers.rt:47:27
 shared-slice-read-out : tie.Need-shared-slice-read-out Inv-loop μ-loop
-shared-slice-read-out c = ?
+shared-slice-read-out c = search needs
 
--- src/to_numbers.rt:47:27
 cast-out : tie.Need-cast-out Inv-loop μ-loop
-cast-out c = ?
+cast-out c = omega (arith, c .shared-slice-known .given (c .before .before .loop .i))
 
--- src/to_numbers.rt:47:13
 add-out : tie.Need-add-out Inv-loop μ-loop
-add-out c = ?
+add-out c = search needs
 
--- src/to_numbers.rt:47:9
 mul-out-2 : tie.Need-mul-out-2 Inv-loop μ-loop
-mul-out-2 c = ?
+mul-out-2 c = search needs
 
--- src/to_numbers.rt:47:9
 slice-write-out : tie.Need-slice-write-out Inv-loop μ-loop
-slice-write-out c = ?
+slice-write-out c = search needs
 
--- src/to_numbers.rt:48:9
 add-i : tie.Need-add-i Inv-loop μ-loop
-add-i c = ?
+add-i c = search needs
 
--- src/to_numbers.rt:46:5
 loop-less : tie.Need-loop-less Inv-loop μ-loop
-loop-less c = ?
+loop-less c = search needs
 
--- src/to_numbers.rt:46:5
 loop-again : tie.Need-loop-again Inv-loop μ-loop
-loop-again c = ?
+loop-again c =
+    let l = c .before .before .loop in
+    let a = c .before .before .before .args in
+    let hd : 12 + l .i < length (a .out .now) = omega arith in
+    let hs : l .i < length (a .labels .now) = omega arith in
+    (omega arith, simp length-set (l .inv .1), rw (add-one, l .inv .2) (paste-suc (a .out .now) 12 (a .labels .now) (l .i) 0 hd hs))
 
--- src/to_numbers.rt:41:1
 same-length : tie.Need-same-length Inv-loop μ-loop
-same-length c = ?
+same-length c = search needs
 
--- src/to_numbers.rt:41:1
 returns : tie.Need-returns Inv-loop μ-loop
-returns c = ?
+returns c =
+    let l = c .before .loop in
+    let a = c .before .before .args in
+    let e : l .i ≡ length (a .labels .now) = omega arith in
+    l .inv .2 ∙ rw (e, take-length)
 
 pub put-labels-spec : {M : Type 1} → statement M
 put-labels-spec =
