@@ -89,6 +89,115 @@ enum caf_strict_place {
  * behind out[12], and not to the file. */
 uint32_t caf_read_strict(const uint8_t *file, size_t file_len, uint64_t *out, size_t out_len);
 
+/* ---- the writer
+ *
+ * The caller keeps the writer record, CAF_RECORD numbers, and the buffer that the file is written to.
+ * caf_new and caf_resume make a record; the calls below change it. The numbers of a record are the
+ * library's own: the places are named for tests. An array of another length, or one whose numbers
+ * stand for no record, is an unsound record: CAF_BAD_WRITER.
+ *
+ * Done: the call writes the next record over the old one. Refused: the record, the buffer and every
+ * other place that the call was lent keep their contents, unless a call below says otherwise. Bytes
+ * of the buffer that a call does not store keep their contents. What is lent as const is only read. */
+enum caf_record_place {
+    CAF_RECORD_HAS_FORMAT = 0,   /* 1 or 0; then the seven numbers of the format, not looked at for 0 */
+    CAF_RECORD_RATE = 1,         /* the 64 bits of the rate */
+    CAF_RECORD_FORMAT_ID = 2,    /* this and the five behind it: 32 bits */
+    CAF_RECORD_FLAGS = 3,
+    CAF_RECORD_BYTES_PER_PACKET = 4,
+    CAF_RECORD_FRAMES_PER_PACKET = 5,
+    CAF_RECORD_CHANNELS = 6,
+    CAF_RECORD_BITS = 7,
+    CAF_RECORD_ENDIANNESS = 8,   /* 0 big, 1 little */
+    CAF_RECORD_LAYOUT_KIND = 9,  /* 0 no layout, 1 a tag, 2 descriptions */
+    CAF_RECORD_LAYOUT_TAG = 10,  /* 32 bits; not looked at unless the kind is 1 */
+    CAF_RECORD_LABEL_COUNT = 11,
+    CAF_RECORD_LABELS = 12,      /* 64 numbers of 32 bits */
+    CAF_RECORD_HAS_HEADER = 76,  /* 1 or 0 */
+    CAF_RECORD_SIZE_POSITION = 77,
+    CAF_RECORD_DATA_START = 78,
+    CAF_RECORD_FILE_LEN = 79,
+    CAF_RECORD_DATA_COUNT = 80,
+    CAF_RECORD_FINISHED = 81,    /* 1 or 0 */
+    CAF_RECORD = 82
+};
+
+/* A fresh record. Writes record[0..81]. With fewer than CAF_RECORD places: CAF_NO_ROOM, and writes
+ * nothing. */
+uint32_t caf_new(uint64_t *record, size_t record_len);
+
+/* Resumes the file that stands in the first file_len bytes of the buffer. Done: writes the record.
+ * Refused: writes a fresh record. In both cases writes the count of chunk headers met to chunks[0].
+ * With fewer than CAF_RECORD places for the record or none for the count: CAF_NO_ROOM, and writes
+ * nothing. */
+uint32_t caf_resume(const uint8_t *buf, size_t buf_len, uint64_t file_len,
+                    uint64_t *record, size_t record_len, uint64_t *chunks, size_t chunks_len);
+
+/* Settings: they write to the record alone. */
+uint32_t caf_set_format(uint64_t *record, size_t record_len,
+                        double rate, uint32_t channels, uint32_t bits, bool is_float, bool little_endian);
+uint32_t caf_set_layout_tag(uint64_t *record, size_t record_len, uint32_t tag);
+uint32_t caf_set_layout_for_labels(uint64_t *record, size_t record_len,
+                                   const uint32_t *labels, size_t label_count, uint32_t channels);
+/* Format and labels in one call: both are set, or neither. */
+uint32_t caf_configure_format(uint64_t *record, size_t record_len,
+                              double rate, uint32_t channels, uint32_t bits,
+                              const uint32_t *labels, size_t label_count);
+
+/* Stores the header from buf[0] on. */
+uint32_t caf_write_header(uint64_t *record, size_t record_len, uint8_t *buf, size_t buf_len);
+/* Stores the bytes at the end of the file. */
+uint32_t caf_write_data(uint64_t *record, size_t record_len, uint8_t *buf, size_t buf_len,
+                        const uint8_t *bytes, size_t byte_count);
+/* Packs the samples, three bytes each in the record's byte order, and stores them at the end of the
+ * file. */
+uint32_t caf_write_samples(uint64_t *record, size_t record_len, uint8_t *buf, size_t buf_len,
+                           const int32_t *samples, size_t sample_count);
+/* Stores the eight bytes of the size field; nothing where the record is finished. */
+uint32_t caf_finish(uint64_t *record, size_t record_len, uint8_t *buf, size_t buf_len);
+
+/* Places in the array that caf_stats fills. */
+enum caf_stats_place {
+    CAF_STATS_DATA_COUNT = 0, /* data bytes taken in this session */
+    CAF_STATS_FINISHED = 1,   /* 1 or 0 */
+    CAF_STATS_PLACES = 2
+};
+
+/* Done for any record, sound or not: writes out[0..1]. CAF_BAD_WRITER only where the array stands for
+ * no record; then it writes nothing. With fewer than CAF_STATS_PLACES places: CAF_NO_ROOM. */
+uint32_t caf_stats(const uint64_t *record, size_t record_len, uint64_t *out, size_t out_len);
+
+/* The counted forms: the first n stores of the call, or all if there are fewer. The record is only
+ * read. Done and refused: write out[0..1]; a refused call has done no store, and the length is then
+ * the record's own (0 where the array stands for no record). With fewer than CAF_COUNTED_PLACES
+ * places: CAF_NO_ROOM, and nothing is written anywhere. */
+enum caf_counted_place {
+    CAF_COUNTED_STORES = 0,
+    CAF_COUNTED_FILE_LEN = 1,
+    CAF_COUNTED_PLACES = 2
+};
+
+uint32_t caf_write_header_counted(const uint64_t *record, size_t record_len, uint8_t *buf, size_t buf_len,
+                                  uint64_t n, uint64_t *out, size_t out_len);
+uint32_t caf_write_data_counted(const uint64_t *record, size_t record_len, uint8_t *buf, size_t buf_len,
+                                const uint8_t *bytes, size_t byte_count,
+                                uint64_t n, uint64_t *out, size_t out_len);
+uint32_t caf_write_samples_counted(const uint64_t *record, size_t record_len, uint8_t *buf, size_t buf_len,
+                                   const int32_t *samples, size_t sample_count,
+                                   uint64_t n, uint64_t *out, size_t out_len);
+uint32_t caf_finish_counted(const uint64_t *record, size_t record_len, uint8_t *buf, size_t buf_len,
+                            uint64_t n, uint64_t *out, size_t out_len);
+
+/* ---- 24-bit samples, three bytes each */
+
+/* Writes 3 * sample_count bytes to out. CAF_NO_ROOM where out is shorter: writes nothing. */
+uint32_t caf_pack_24(const int32_t *samples, size_t sample_count, bool little_endian,
+                     uint8_t *out, size_t out_len);
+/* Writes byte_count / 3 samples to out. CAF_ODD_LENGTH where 3 does not divide byte_count, then
+ * CAF_NO_ROOM: writes nothing. */
+uint32_t caf_unpack_24(const uint8_t *bytes, size_t byte_count, bool little_endian,
+                       int32_t *out, size_t out_len);
+
 #ifdef __cplusplus
 }
 #endif
