@@ -71,11 +71,7 @@ fn accepted(len: usize, info: StrictInfo) {
     line(b"file ", len as u64);
     let format = info.format;
     lines_of_format(format);
-    line_of_two(
-        b"data ",
-        info.size_position as u64,
-        info.data_start as u64,
-    );
+    line_of_two(b"data ", info.size_position as u64, info.data_start as u64);
     line_of_payload(info.payload, info.open);
     line(b"frames ", info.frames as u64);
 }

@@ -1,0 +1,35 @@
+use mathlib.Core.Path.{sym}
+use native.Mathlib.Omega.{arith}
+use lib.Seq.{length-take-le}
+use borrow.Author.Needs.{needs}
+use Rattle.cuts.proofs.line.same_files.Statement.{statement}
+use Rattle.cuts.proofs.line.same_files.Tie as tie
+
+returns : tie.Need-returns
+returns c = search needs
+
+returns-2 : tie.Need-returns-2
+returns-2 c = search needs
+
+slice-aggregate-same : tie.Need-slice-aggregate-same
+slice-aggregate-same c = sym (length-take-le (c .before .before .before .before .before .args .n) (c .before .before .before .before .before .args .a .now) (omega arith))
+
+slice-aggregate-same-2 : tie.Need-slice-aggregate-same-2
+slice-aggregate-same-2 c = sym (length-take-le (c .before .before .before .before .before .before .args .m) (c .before .before .before .before .before .before .args .b .now) (omega arith))
+
+same-requires : tie.Need-same-requires
+same-requires c κs = search needs
+
+returns-3 : tie.Need-returns-3
+returns-3 c = search needs
+
+pub same-files-spec : {M : Type 1} → statement M
+same-files-spec =
+    tie.close
+    (tie.spec
+    returns
+    returns-2
+    slice-aggregate-same
+    slice-aggregate-same-2
+    same-requires
+    returns-3)
