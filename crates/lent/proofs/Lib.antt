@@ -1,0 +1,7 @@
+pub mod Lends
+pub mod Locals
+pub mod Number
+pub mod Reopen
+pub mod ResumeAnswered
+pub mod Thin
+pub mod Writes
