@@ -1,12 +1,15 @@
 // When a record is sound, in the order of specs/Sound.antt.
 use crate::CAFWriter;
 use crate::record::SIZE_TO_DATA;
+use answers::FILE_MAX;
+use byteorder::float::is_not_a_number;
 use format::Endianness;
 use format::MaybeFormat;
 use format::flags::endianness_for;
 use layout::ChannelLayout;
 use layout::known::all_known;
 use layout::known::known_tag;
+use layout::setting::LABEL_PLACES;
 ghost use mathlib.Core.Path.{_≡_};
 ghost use Rattle.format.specs.Flags.{sameOrder, isLittle};
 ghost use Rattle.writer.specs.Header.{exceeds};
@@ -14,11 +17,6 @@ ghost use Rattle.writer.specs.Sound.{headedSound, placesSound, rateSound
 
 // A file header, a chunk header and an edit count stand before the data.
 const LEAST_START: usize = 24;
-
-const LABEL_PLACES: usize = 64;
-
-// The longest file.
-pub(crate) const FILE_MAX: usize = 0x7FFF_FFFF_FFFF_FFFF;
 
 // Whether a file of this length is longer than the buffer, or than any file may be.
 pub(crate) fn is_too_long(len: usize, room: usize) -> bool
@@ -53,10 +51,7 @@ fn rate_sound(format: MaybeFormat) -> bool
 {
     match format {
         MaybeFormat::Absent => true,
-        MaybeFormat::Present(f) => {
-            let rate = f.sample_rate;
-            !(rate != rate)
-        }
+        MaybeFormat::Present(f) => !is_not_a_number(f.sample_rate),
     }
 }
 
