@@ -14,7 +14,7 @@ use Rattle.byteorder.proofs.Budget.{all-done}
 use Rattle.writer.specs.Outcome.{Outcome, stores, unchanged, unlessRefused, counted, bufferCut}
 use Rattle.writer.specs.Record.{asFinished}
 use Rattle.writer.specs.Finish.{finishNumber, finalSize, finishCall}
-use Rattle.writer.specs.Claims.{CutWhole}
+use Rattle.writer.specs.WholeCalls.{CutWhole}
 use Rattle.writer.specs.declared.CAFWriter.{CAFWriter}
 use Rattle.writer.specs.declared.Counted.{Counted}
 use Rattle.writer.proofs.Tests.{accepted, refused}
