@@ -11,8 +11,7 @@ use Rattle.format.specs.declared.AudioFormat.{AudioFormat}
 use Rattle.layout.specs.declared.ChannelLayout.{ChannelLayout}
 use Rattle.reading.specs.Types.{'data', editSize}
 use Rattle.reading.specs.Grammar.{front, chunkHeader, dataSize, dataChunk, bytesOf, valuesOf, chunksOf}
-use Rattle.writer.specs.Made.{layoutChunks, made, headerBytes}
-use Rattle.writer.specs.Claims.{startOf}
+use Rattle.writer.specs.Made.{layoutChunks, made, headerBytes, startOf}
 use Rattle.writer.specs.ReadBack.{Found, ReadBack}
 use Rattle.writer.proofs.Made.{made-accepted, header-length}
 

@@ -14,8 +14,7 @@ use Rattle.reading.specs.Grammar.{bytesOf}
 use Rattle.reading.specs.Strict.{strict}
 use Rattle.reading.specs.declared.StrictInfo.{StrictInfo}
 use Rattle.reading.specs.declared.StrictAnswer.the-variants.{Accepted}
-use Rattle.writer.specs.Made.{made}
-use Rattle.writer.specs.Claims.{startOf}
+use Rattle.writer.specs.Made.{made, startOf}
 
 module _ (isOpen : Bool) (f : AudioFormat) (layout : ChannelLayout) (ls audio : List ℕ) where
   pub record Found (v : StrictInfo) : Type 0 where

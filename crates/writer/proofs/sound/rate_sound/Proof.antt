@@ -4,27 +4,19 @@ use mathlib.Core.Path.{sym, ap, _∙_}
 use borrow.Author.Needs.{needs}
 use Rattle.writer.proofs.sound.rate_sound.Statement.{statement}
 use Rattle.writer.proofs.sound.rate_sound.Tie as tie
-use Rattle.writer.proofs.sound.rate_sound.Reads as reads
-use Rattle.writer.proofs.sound.rate_sound.Lts as lts
-use Rattle.byteorder.proofs.float.is_not_a_number.Reads as is-not-a-number-reads
 
--- src/sound.rt:53:32
 enum-told : tie.Need-enum-told
 enum-told c = search needs
 
--- src/sound.rt:54:30
 enum-known-format : tie.Need-enum-known-format
 enum-known-format c = search needs
 
--- src/sound.rt:54:37
 is-not-a-number-requires : tie.Need-is-not-a-number-requires
 is-not-a-number-requires c κs = search needs
 
--- src/sound.rt:49:1
 returns : tie.Need-returns
 returns c = search needs
 
--- src/sound.rt:49:1
 returns-2 : tie.Need-returns-2
 returns-2 c = ap not (c .is-not-a-number .ensures) ∙ sym (ap rateSound (c .before .before .format .given .1))
 
