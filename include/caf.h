@@ -89,6 +89,19 @@ enum caf_strict_place {
  * behind out[12], and not to the file. */
 uint32_t caf_read_strict(const uint8_t *file, size_t file_len, uint64_t *out, size_t out_len);
 
+/* ---- layouts */
+
+/* Places in the array that caf_layout_for_labels fills. */
+enum caf_layout_place {
+    CAF_LAYOUT_KIND = 0, /* 1 a tag, 2 descriptions */
+    CAF_LAYOUT_TAG = 1,  /* the tag of the first row with exactly these labels; 0 for descriptions */
+    CAF_LAYOUT_PLACES = 2
+};
+
+/* The layout that a writer would take for these labels. Writes out[0..1]. With fewer than
+ * CAF_LAYOUT_PLACES places: CAF_NO_ROOM, and writes nothing. */
+uint32_t caf_layout_for_labels(const uint32_t *labels, size_t label_count, uint64_t *out, size_t out_len);
+
 /* ---- the writer
  *
  * The caller keeps the writer record, CAF_RECORD numbers, and the buffer that the file is written to.
@@ -122,14 +135,14 @@ enum caf_record_place {
     CAF_RECORD = 82
 };
 
-/* A fresh record. Writes record[0..81]. With fewer than CAF_RECORD places: CAF_NO_ROOM, and writes
+/* A fresh record. Writes record[0..81]. An array of another length: CAF_BAD_WRITER, and writes
  * nothing. */
 uint32_t caf_new(uint64_t *record, size_t record_len);
 
 /* Resumes the file that stands in the first file_len bytes of the buffer. Done: writes the record.
  * Refused: writes a fresh record. In both cases writes the count of chunk headers met to chunks[0].
- * With fewer than CAF_RECORD places for the record or none for the count: CAF_NO_ROOM, and writes
- * nothing. */
+ * An array of another length than CAF_RECORD: CAF_BAD_WRITER; then no place for the count: CAF_NO_ROOM;
+ * either writes nothing. */
 uint32_t caf_resume(const uint8_t *buf, size_t buf_len, uint64_t file_len,
                     uint64_t *record, size_t record_len, uint64_t *chunks, size_t chunks_len);
 

@@ -3,3 +3,4 @@ pub mod RatePatterns
 pub mod Words
 pub mod Records
 pub mod Puts
+pub mod Calls

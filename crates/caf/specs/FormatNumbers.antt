@@ -7,6 +7,8 @@ use Rattle.byteorder.specs.Rate.{rateBits}
 use Rattle.format.specs.declared.AudioFormat.{AudioFormat}
 use Rattle.format.specs.declared.MaybeFormat.{MaybeFormat}
 use Rattle.format.specs.declared.MaybeFormat.the-variants.{Absent, Present}
+use Rattle.format.specs.declared.PCMDataType.{PCMDataType}
+use Rattle.format.specs.declared.PCMDataType.the-variants.{SignedInteger, Float}
 use Rattle.format.specs.declared.Endianness.{Endianness}
 use Rattle.format.specs.declared.Endianness.the-variants.{BigEndian, LittleEndian}
 
@@ -33,3 +35,10 @@ formatNumbers (Present f) = 1 ∷ audioNumbers f
 abbrev pub orderNumber : Endianness → ℕ
 orderNumber BigEndian = 0
 orderNumber LittleEndian = 1
+
+-- the same choice made by a bool, and that of the samples' type
+abbrev pub byteOrder : Bool → Endianness
+byteOrder little = cond little LittleEndian BigEndian
+
+abbrev pub sampleType : Bool → PCMDataType
+sampleType isFloat = cond isFloat Float SignedInteger

@@ -1,11 +1,6 @@
 -- The numbers of a reading's answer, as they go to a lent array. The first is always the count of chunk headers met.
 use Prim.Native.Nat.{ℕ}
-use mathlib.Core.Bool.{cond}
 use mathlib.Core.List.{List, [], _∷_, _++_}
-use lib.ListN.{length}
-use lib.Dec.{ltb}
-use Rattle.answers.specs.Numbers.{noRoom}
-use Rattle.byteorder.specs.Splice.{splice}
 use Rattle.reading.specs.declared.PlainAnswer.{PlainAnswer}
 use Rattle.reading.specs.declared.PlainAnswer.the-variants.{Found, NotRead}
 use Rattle.reading.specs.declared.StrictAnswer.{StrictAnswer}
@@ -31,11 +26,3 @@ plainPlaces = 12
 
 abbrev pub strictPlaces : ℕ
 strictPlaces = 13
-
--- an array with fewer places than an accepted file has numbers is refused (NoRoom), whatever the file says
-abbrev pub numberGiven : ℕ → List ℕ → ℕ → ℕ
-numberGiven places out number = cond (ltb (length out) places) noRoom number
-
--- the array afterwards: the numbers from its start on, and all other places as they were
-abbrev pub lentAfter : ℕ → List ℕ → List ℕ → List ℕ
-lentAfter places out numbers = cond (ltb (length out) places) out (splice out 0 numbers)

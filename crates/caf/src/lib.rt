@@ -1,7 +1,15 @@
 // What C and Rust link as libcaf.a; include/caf.h declares it. A slice is passed as a pointer and a length, and every call takes
 // any lengths and any contents: none has a `requires`.
+mod choices;
+pub mod counted;
 mod format_numbers;
 mod from_numbers;
+mod kept;
+pub mod layouts;
+pub mod made;
 mod numbers;
 pub mod readings;
+pub mod samples;
+pub mod settings;
 mod to_numbers;
+pub mod writing;

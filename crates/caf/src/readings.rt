@@ -21,7 +21,8 @@ ghost use Rattle.reading.specs.Plain.{plain};
 ghost use Rattle.reading.specs.Strict.{strict};
 ghost use Rattle.reading.specs.declared.PlainAnswer.the-variants.{Found as plain·Found};
 ghost use Rattle.reading.specs.declared.StrictAnswer.the-variants.{Accepted as strict·Accepted};
-ghost use Rattle.caf.specs.ReadingNumbers.{plainPlaces, strictPlaces, plainNumbers, strictNumbers, numberGiven, lentAfter};
+ghost use Rattle.caf.specs.ReadingNumbers.{plainPlaces, strictPlaces, plainNumbers, strictNumbers};
+ghost use Rattle.caf.specs.Lent.{numberGiven, lentAfter};
 
 const PLAIN_PLACES: usize = 12;
 

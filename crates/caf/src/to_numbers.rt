@@ -18,7 +18,7 @@ ghost use lib.ListN.{length};
 ghost use Rattle.byteorder.specs.Splice.{splice};
 ghost use Rattle.caf.specs.RecordNumbers.{recordPlaces, labelsPlace, layoutKind, layoutTag, recordNumbers};
 
-fn layout_kind(layout: ChannelLayout) -> u64
+pub(crate) fn layout_kind(layout: ChannelLayout) -> u64
     ensures { λ r. ⌜ r ≡ layoutKind layout ⌝ }
 {
     match layout {
@@ -28,7 +28,7 @@ fn layout_kind(layout: ChannelLayout) -> u64
     }
 }
 
-fn layout_tag(layout: ChannelLayout) -> u64
+pub(crate) fn layout_tag(layout: ChannelLayout) -> u64
     ensures { λ r. ⌜ r ≡ layoutTag layout ⌝ }
 {
     match layout {

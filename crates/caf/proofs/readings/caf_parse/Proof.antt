@@ -1,4 +1,4 @@
-use Rattle.caf.specs.ReadingNumbers.{plainNumbers, lentAfter, numberGiven}
+use Rattle.caf.specs.ReadingNumbers.{plainNumbers}
 use Rattle.reading.specs.Answers.{plainNumber}
 use borrow.Author.Tests.{lt-ltb, le-ltb}
 use mathlib.Core.Path.{_≡_, sym, ap, _∙_}

@@ -1,4 +1,4 @@
-use Rattle.caf.specs.ReadingNumbers.{strictNumbers, lentAfter, numberGiven}
+use Rattle.caf.specs.ReadingNumbers.{strictNumbers}
 use Rattle.reading.specs.Answers.{strictNumber}
 use borrow.Author.Tests.{lt-ltb, le-ltb}
 use mathlib.Core.Path.{_≡_, sym, ap, _∙_}

@@ -2,9 +2,6 @@ use borrow.Author.Needs.{needs}
 use Rattle.lent.proofs.Reopen.{refused-keeps, accepted-takes}
 use Rattle.lent.proofs.resume.reopen.Statement.{statement}
 use Rattle.lent.proofs.resume.reopen.Tie as tie
-use Rattle.lent.proofs.resume.reopen.Reads as reads
-use Rattle.lent.proofs.resume.reopen.Lts as lts
-use Rattle.writer.proofs.CAFWriter.from_existing_file.Reads as from-existing-file-reads
 
 from-existing-file-requires : tie.Need-from-existing-file-requires
 from-existing-file-requires c κs = search needs

@@ -1,0 +1,50 @@
+use mathlib.Core.Path.{_≡_, _∙_, ap}
+use mathlib.Core.List.{[], _∷_}
+use borrow.Author.Tests.{lt-ltb, le-ltb}
+use Rattle.byteorder.specs.Splice.{splice}
+use Rattle.layout.specs.Search.{layoutFor}
+use Rattle.caf.specs.LayoutNumbers.{layoutNumbers}
+use borrow.Author.Needs.{needs}
+use Rattle.caf.proofs.layouts.caf_layout_for_labels.Statement.{statement}
+use Rattle.caf.proofs.layouts.caf_layout_for_labels.Tie as tie
+
+returns : tie.Need-returns
+returns c = (rw (lt-ltb _ _ (c .if1 .taken)), rw (lt-ltb _ _ (c .if1 .taken)))
+
+layout-for-requires : tie.Need-layout-for-requires
+layout-for-requires c κs = search needs
+
+layout-kind-requires : tie.Need-layout-kind-requires
+layout-kind-requires c κs = search needs
+
+layout-tag-requires : tie.Need-layout-tag-requires
+layout-tag-requires c κs = search needs
+
+slice-aggregate-put : tie.Need-slice-aggregate-put
+slice-aggregate-put c = search needs
+
+put-requires : tie.Need-put-requires
+put-requires c κs = search needs
+
+same-length : tie.Need-same-length
+same-length c = search needs
+
+returns-2 : tie.Need-returns-2
+returns-2 c =
+    let room = le-ltb _ _ (c .before .before .before .before .before .before .before .before .if1 .left) in
+    let numbers : c .before .before .before .before .before .before .layout-kind .result ∷ c .before .before .before .before .before .layout-tag .result ∷ [] ≡ layoutNumbers (layoutFor (c .before .before .before .before .before .before .before .before .before .before .before .args .labels .now)) =
+    rw (c .before .before .before .before .before .before .layout-kind .ensures, c .before .before .before .before .before .layout-tag .ensures, c .before .before .before .before .before .before .before .layout-for .ensures) in
+    (rw room, rw room (c .before .before .put .ensures ∙ ap (splice (c .before .before .before .before .before .before .before .before .before .before .before .args .out .now) 0) numbers))
+
+pub caf-layout-for-labels-spec : {M : Type 1} → statement M
+caf-layout-for-labels-spec =
+    tie.close
+    (tie.spec
+    returns
+    layout-for-requires
+    layout-kind-requires
+    layout-tag-requires
+    slice-aggregate-put
+    put-requires
+    same-length
+    returns-2)

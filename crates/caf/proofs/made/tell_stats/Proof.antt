@@ -1,0 +1,22 @@
+use borrow.Author.Needs.{needs}
+use Rattle.caf.proofs.made.tell_stats.Statement.{statement}
+use Rattle.caf.proofs.made.tell_stats.Tie as tie
+
+flag-requires : tie.Need-flag-requires
+flag-requires c κs = search needs
+
+slice-aggregate-put : tie.Need-slice-aggregate-put
+slice-aggregate-put c = search needs
+
+put-requires : tie.Need-put-requires
+put-requires c κs = search needs
+
+same-length : tie.Need-same-length
+same-length c = search needs
+
+returns : tie.Need-returns
+returns c = rw (c .before .before .before .before .before .flag .ensures) at (c .before .before .put .ensures)
+
+pub tell-stats-spec : {M : Type 1} → statement M
+tell-stats-spec =
+    tie.close (tie.spec flag-requires slice-aggregate-put put-requires same-length returns)

@@ -1,0 +1,28 @@
+// The layout for labels, for C.
+use crate::numbers::put;
+use crate::to_numbers::layout_kind;
+use crate::to_numbers::layout_tag;
+use answers::DONE;
+use answers::NO_ROOM;
+use layout::search::layout_for;
+ghost use mathlib.Core.Path.{_≡_};
+ghost use Rattle.answers.specs.Numbers.{done};
+ghost use Rattle.layout.specs.Search.{layoutFor};
+ghost use Rattle.caf.specs.Lent.{numberGiven, lentAfter};
+ghost use Rattle.caf.specs.LayoutNumbers.{layoutPlaces, layoutNumbers};
+
+const LAYOUT_PLACES: usize = 2;
+
+#[no_mangle]
+pub extern "C" fn caf_layout_for_labels(labels: &[u32], out: &mut [u64]) -> u32
+    ensures { λ r. ⌜ r ≡ numberGiven layoutPlaces (now (out .entry)) done ⌝ }
+    ensures { λ _. ⌜ now (out .exit) ≡ lentAfter layoutPlaces (now (out .entry)) (layoutNumbers (layoutFor (now (labels .entry)))) ⌝ }
+{
+    if out.len() < LAYOUT_PLACES {
+        return NO_ROOM;
+    }
+    let layout = layout_for(labels);
+    let numbers = [layout_kind(layout), layout_tag(layout)];
+    put(out, 0, &numbers);
+    DONE
+}
