@@ -1,4 +1,5 @@
 pub mod Lends
+pub mod LentOn
 pub mod Locals
 pub mod Number
 pub mod Reopen

@@ -9,7 +9,6 @@ use types.Kit.{Given}
 use denote.Builtin.{u32}
 use denote.Steps.{only}
 use denote.Struct.Laws as LL
-use Rattle.writer.specs.declared.Wrote.{Wrote}
 use Rattle.writer.proofs.Wrote as R
 use Rattle.writer.proofs.Wrote.Laws as R′
 use Rattle.lent.proofs.Thin.{Handed}

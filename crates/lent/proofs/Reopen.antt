@@ -1,13 +1,11 @@
 -- The two ways of a resume into a record that stands already.
-use mathlib.Core.Path.{_≡_, refl, sym, ap}
-use mathlib.Core.Bool.{Bool, true, false, cond}
-use lib.Dec.{eqb}
+use mathlib.Core.Path.{_≡_, sym}
 use borrow.Author.Tests.{eq-eqb, ne-eqb}
 use Rattle.answers.specs.Numbers.{done}
 use Rattle.writer.specs.declared.CAFWriter.{CAFWriter}
 use Rattle.writer.specs.declared.Resumed.{Resumed}
 use Rattle.lent.specs.declared.Reopened.{Reopened}
-use Rattle.lent.specs.Resume.{answered, resumedInto, reopenedFrom}
+use Rattle.lent.specs.Resume.{answered, reopenedFrom}
 
 module _ (w : CAFWriter) (d e : Resumed) (is : d ≡ e) where
   pub refused-keeps : (d .number ≡ done → ⊥) → _≡_ {A = Reopened} (record { answer = answered d; writer = w }) (reopenedFrom w e)

@@ -1,0 +1,3 @@
+pub mod Films
+pub mod Keeping
+pub mod Keeps
