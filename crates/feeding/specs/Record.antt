@@ -1,0 +1,78 @@
+-- 02, T-01: the record that is fed, and when it is sound.
+use Prim.Native.Nat.{ℕ, _+_, _-_, _*_}
+use mathlib.Core.Bool.{Bool, not, _&&_, _||_}
+use lib.ListN.{replicate}
+use lib.Dec.{leb, ltb, eqb}
+use Rattle.answers.specs.Numbers.{notCaf, badSize, badRate, badVersion, badDesc, tooLong, fileMax}
+use Rattle.byteorder.specs.Rate.{notANumber}
+use Rattle.format.specs.Desc.{descSize}
+use Rattle.format.specs.declared.AudioFormat.{AudioFormat}
+use Rattle.reading.specs.Types.{fileHeaderSize, chunkHeaderSize, editSize, negative}
+use Rattle.reading.specs.Step.{bodyAt}
+use Rattle.reading.specs.Strict.{isBadDataSize}
+use Rattle.feeding.specs.declared.Phase.{Phase}
+use Rattle.feeding.specs.declared.Phase.the-variants.{FileHeader, FirstHeader, Desc, Header, Skipping, Edit, InData, Refused}
+use Rattle.feeding.specs.declared.Feeder.{Feeder}
+
+-- the longest piece is the body of a `desc`
+abbrev pub heldRoom : ℕ
+heldRoom = descSize
+
+-- no byte was fed
+abbrev pub fresh : Feeder
+fresh =
+    record {
+      phase = FileHeader;
+      held = replicate heldRoom 0;
+      count = 0;
+      total = 0;
+      chunks = 0;
+    }
+
+-- how many bytes the piece has that is collected in a phase; 0 where none is
+abbrev pub pieceSize : Phase → ℕ
+pieceSize FileHeader = fileHeaderSize
+pieceSize FirstHeader = chunkHeaderSize
+pieceSize Desc = descSize
+pieceSize (Header f) = chunkHeaderSize
+pieceSize (Skipping f left) = 0
+pieceSize (Edit f size) = editSize
+pieceSize (InData f size start) = 0
+pieceSize (Refused number) = 0
+
+-- the refusals that the bytes themselves give, as soon as the piece is whole that tells them. All others (CutShort, NoData,
+-- DataPastEnd and DataEndsEarly) wait for the end
+abbrev pub isByBytes : ℕ → Bool
+isByBytes number = eqb number notCaf || eqb number badVersion || eqb number badDesc || eqb number badRate || eqb number badSize
+
+-- what stands before the second chunk: the file header and the whole first chunk
+abbrev pub behindFirst : ℕ
+behindFirst = bodyAt fileHeaderSize + descSize
+
+-- the rate is not a not-a-number
+abbrev pub rateIs : AudioFormat → Bool
+rateIs f = not (notANumber (f .«sample_rate»))
+
+-- k chunk headers were met, the first among them, and they stand within the first n bytes
+abbrev pub metWithin : ℕ → ℕ → Bool
+metWithin k n = leb 1 k && leb (behindFirst + chunkHeaderSize * (k - 1)) n
+
+-- with n bytes of a piece held, of `total` read, and k chunk headers met
+unfoldable pub phaseSound : ℕ → ℕ → ℕ → Phase → Bool
+phaseSound n total k FileHeader = eqb total n && eqb k 0
+phaseSound n total k FirstHeader = eqb total (fileHeaderSize + n) && eqb k 0
+phaseSound n total k Desc = eqb total (bodyAt fileHeaderSize + n) && eqb k 1
+phaseSound n total k (Header f) = rateIs f && leb n total && metWithin k (total - n)
+phaseSound n total k (Skipping f left) = rateIs f && metWithin k total && leb 1 left && ltb left negative
+phaseSound n total k (Edit f size) = rateIs f && leb n total && metWithin k (total - n) && not (isBadDataSize size)
+phaseSound n total k (InData f size start) =
+    rateIs f && leb start total && leb editSize start && metWithin k (start - editSize) && not (isBadDataSize size)
+phaseSound n total k (Refused number) = leb (chunkHeaderSize * k) total && (isByBytes number || eqb number tooLong)
+
+-- a record that calls may have made. No more is read than a file may have, fewer bytes are held than the piece has, and none where
+-- no piece is collected. BadWriter (19) refuses another
+unfoldable pub sound : Feeder → Bool
+sound r =
+    leb (r .total) fileMax
+    && leb (r .count) (pieceSize (r .phase) - 1)
+    && phaseSound (r .count) (r .total) (r .chunks) (r .phase)
