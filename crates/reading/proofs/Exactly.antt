@@ -104,7 +104,7 @@ module _ (s : List ℕ) where
 
   -- the values of an accepted file, by the place of its data chunk
   accepted-values : (p : ℕ) (f : AudioFormat) (k size start : ℕ) → Present f ≡ Present first → Place s p Strict (Data size start)
-      → strictAnswer s first (Found (infoOf (Present f) size start) (k + 1)) ≡ Accepted (strictInfo s f (sizeAt s p) size start) (k + 1)
+      → strictAnswer s first (Found (infoOf (Present f) size start) (k + 1)) ≡ Accepted (strictInfo f (sizeAt s p) size start (left s start)) (k + 1)
   accepted-values p f k size start e (Table.open-data h z b) = let g : first ≡ f = cc in rw g
   accepted-values p f k size start e (Table.closed-data h b g z) = let g : first ≡ f = cc in rw g
 
@@ -132,7 +132,7 @@ module _ (s : List ℕ) where
   Gives Strict a = StrictGives s (strictAnswer s first a)
 
   gives-accepted : (p k size start : ℕ) → Reaches s Strict p (Present first) k → Place s p Strict (Data size start)
-      → StrictGives s (Accepted (strictInfo s first (bigAt 8 s size) size start) (k + 1))
+      → StrictGives s (Accepted (strictInfo first (bigAt 8 s size) size start (left s start)) (k + 1))
   gives-accepted p k size start at (Table.open-data h z b) = StrictGives.accepted at (Table.open-data h z b)
   gives-accepted p k size start at (Table.closed-data h b g z) = StrictGives.accepted at (Table.closed-data h b g z)
 

@@ -119,4 +119,4 @@ pub data StrictGives (s : List ℕ) : StrictAnswer → Type 0 where
   first-bad-rate : FirstDesc s → descSize ≤ behind s fileHeaderSize → badRateAt s (bodyAt fileHeaderSize) ≡ true → StrictGives s (Rejected badRate 1)
   refused : {p : ℕ} {f : MaybeFormat} {k number met : ℕ} → Reaches s Strict p f k → Place s p Strict (Refused number met) → StrictGives s (Rejected number (k + met))
   accepted : {p : ℕ} {f : AudioFormat} {k size start : ℕ} → Reaches s Strict p (Present f) k → Place s p Strict (Data size start)
-      → StrictGives s (Accepted (strictInfo s f (sizeAt s p) size start) (k + 1))
+      → StrictGives s (Accepted (strictInfo f (sizeAt s p) size start (left s start)) (k + 1))
