@@ -20,7 +20,7 @@ use Rattle.feeding.specs.Claims.{FewTurns}
 use Rattle.feeding.specs.declared.Phase.{Phase}
 use Rattle.feeding.specs.declared.Phase.the-variants.{FileHeader, FirstHeader, Desc, Header, Skipping, Edit, InData, Refused}
 use Rattle.feeding.specs.declared.Feeder.{Feeder}
-use Rattle.feeding.proofs.Sound.{Sound, sound-facts, step-sound, bytes-sound}
+use Rattle.feeding.proofs.Soundness.{Sound, sound-facts, step-sound, bytes-sound}
 use Rattle.feeding.proofs.Turns.{from, Collects, turn-is, turn-takes, bytes-steady}
 
 -- where a phase stands between two headers, and how far a record has come

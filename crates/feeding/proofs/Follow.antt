@@ -8,13 +8,13 @@ use native.Mathlib.Omega.{arith}
 use lib.ListN.{length, drop, length-append, length-drop}
 use lib.Dec.{ltb, leb, eqb}
 use borrow.Author.Tests.{eqb-true, eqb-false, le-ltb}
-use Rattle.answers.specs.Numbers.{cutShort, noData, badSize, badRate, badDesc, dataPastEnd, dataEndsEarly}
+use Rattle.answers.specs.Numbers.{cutShort, badSize, badDesc, dataPastEnd, dataEndsEarly}
 use Rattle.byteorder.specs.Splice.{splice}
 use Rattle.byteorder.proofs.Laws.{length-splice}
 use Rattle.format.specs.Desc.{formatAt, descSize}
 use Rattle.format.specs.declared.AudioFormat.{AudioFormat}
 use Rattle.format.specs.declared.MaybeFormat.the-variants.{Present}
-use Rattle.reading.specs.Types.{'caff', 'desc', 'data', version, typeSize, fileHeaderSize, chunkHeaderSize, editSize, negative}
+use Rattle.reading.specs.Types.{'caff', 'desc', 'data', version, typeSize, editSize, negative}
 use Rattle.reading.specs.Step.{left, standsAt, sizeAt, bodyAt, badRateAt, skipAt, stepAt}
 use Rattle.reading.specs.Walk.{next, walk}
 use Rattle.reading.specs.Strict.{isOpenSize, isBadDataSize, isFirstDesc, strictData, strictStep, strictAnswer, firstBody, firstChunk, strict}

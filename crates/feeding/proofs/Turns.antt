@@ -20,7 +20,7 @@ use Rattle.feeding.specs.Claims.{ByTurns}
 use Rattle.feeding.specs.declared.Phase.{Phase}
 use Rattle.feeding.specs.declared.Phase.the-variants.{FileHeader, FirstHeader, Desc, Header, Skipping, Edit, InData, Refused}
 use Rattle.feeding.specs.declared.Feeder.{Feeder}
-use Rattle.feeding.proofs.Sound.{Sound, Facts, sound-facts, step-sound, bytes-sound}
+use Rattle.feeding.proofs.Soundness.{Sound, Facts, sound-facts, step-sound, bytes-sound}
 use Rattle.feeding.proofs.Cut.{refused-bytes}
 use Rattle.feeding.proofs.Limit.{over}
 
@@ -255,7 +255,7 @@ module _ (r : Feeder) (bs : List ℕ) (a : Sound r) (long : roomFor r < length b
           over upTo b rest x (counts-all front r x (omega (arith, fits, a .total)) ∙ (let w : r .total + length front ≡ fileMax = omega (arith, fits, a .total) in w))
           ∙ rw x
 
-  bytes-past : feedBytes r bs ≡ pastLimit upTo
+  pub bytes-past : feedBytes r bs ≡ pastLimit upTo
   bytes-past =
       ap (λ (x : List ℕ). feedBytes r x) (sym (take-append-drop (roomFor r) bs))
       ∙ foldl-append step1 r front (drop (roomFor r) bs)

@@ -5,10 +5,9 @@ use mathlib.Core.List.{List}
 use lib.ListN.{length, take}
 use lib.Dec.{leb, ltb}
 use Rattle.answers.specs.Numbers.{cutShort, noData, dataPastEnd, dataEndsEarly, badWriter, tooLong, fileMax}
-use Rattle.format.specs.Packet.{framesOf}
 use Rattle.format.specs.declared.AudioFormat.{AudioFormat}
 use Rattle.reading.specs.Types.{typeSize, editSize, sizeToData}
-use Rattle.reading.specs.Strict.{isOpenSize, strict}
+use Rattle.reading.specs.Strict.{isOpenSize, strictInfo, strict}
 use Rattle.reading.specs.declared.StrictInfo.{StrictInfo}
 use Rattle.reading.specs.declared.StrictAnswer.{StrictAnswer}
 use Rattle.reading.specs.declared.StrictAnswer.the-variants.{Accepted, Rejected}
@@ -17,20 +16,9 @@ use Rattle.feeding.specs.declared.Phase.{Phase}
 use Rattle.feeding.specs.declared.Phase.the-variants.{FileHeader, FirstHeader, Desc, Header, Skipping, Edit, InData, Refused}
 use Rattle.feeding.specs.declared.Feeder.{Feeder}
 
--- the payload, where `after` bytes stand from the data start on
-abbrev pub payloadIn : ℕ → ℕ → ℕ
-payloadIn size after = cond (isOpenSize size) after (size - editSize)
-
+-- the values of an accepted file whose data start at `start`, where `after` bytes stand from there on
 abbrev pub infoAt : AudioFormat → ℕ → ℕ → ℕ → StrictInfo
-infoAt f size start after =
-    record {
-      format = f;
-      «size_position» = start - sizeToData;
-      «data_start» = start;
-      payload = payloadIn size after;
-      «open» = isOpenSize size;
-      frames = framesOf f (payloadIn size after);
-    }
+infoAt f size start after = strictInfo f size (start - sizeToData) start after
 
 -- the data chunk at the end: an open one takes all that came, a closed one has to end here (DataPastEnd, DataEndsEarly)
 unfoldable pub dataEnd : AudioFormat → ℕ → ℕ → ℕ → ℕ → StrictAnswer

@@ -57,17 +57,20 @@ rateIs f = not (notANumber (f .«sample_rate»))
 abbrev pub metWithin : ℕ → ℕ → Bool
 metWithin k n = leb 1 k && leb (behindFirst + chunkHeaderSize * (k - 1)) n
 
+-- the rate is a number, and the k headers stand before the last n of so many bytes
+abbrev pub headersBefore : ℕ → ℕ → ℕ → AudioFormat → Bool
+headersBefore n bytes k f = rateIs f && leb n bytes && metWithin k (bytes - n)
+
 -- with n bytes of a piece held, of `total` read, and k chunk headers met
 unfoldable pub phaseSound : ℕ → ℕ → ℕ → Phase → Bool
 phaseSound n total k FileHeader = eqb total n && eqb k 0
 phaseSound n total k FirstHeader = eqb total (fileHeaderSize + n) && eqb k 0
 phaseSound n total k Desc = eqb total (bodyAt fileHeaderSize + n) && eqb k 1
-phaseSound n total k (Header f) = rateIs f && leb n total && metWithin k (total - n)
-phaseSound n total k (Skipping f left) = rateIs f && metWithin k total && leb 1 left && ltb left negative
-phaseSound n total k (Edit f size) = rateIs f && leb n total && metWithin k (total - n) && not (isBadDataSize size)
-phaseSound n total k (InData f size start) =
-    rateIs f && leb start total && leb editSize start && metWithin k (start - editSize) && not (isBadDataSize size)
-phaseSound n total k (Refused number) = leb (chunkHeaderSize * k) total && (isByBytes number || eqb number tooLong)
+phaseSound n total k (Header f) = headersBefore n total k f
+phaseSound n total k (Skipping f left) = headersBefore 0 total k f && leb 1 left && ltb left negative
+phaseSound n total k (Edit f size) = headersBefore n total k f && not (isBadDataSize size)
+phaseSound n total k (InData f size start) = leb start total && headersBefore editSize start k f && not (isBadDataSize size)
+phaseSound n total k (Refused number) = leb (chunkHeaderSize * k) total && (eqb number tooLong || isByBytes number)
 
 -- a record that calls may have made. No more is read than a file may have, fewer bytes are held than the piece has, and none where
 -- no piece is collected. BadWriter (19) refuses another

@@ -1,11 +1,11 @@
 -- A sound record stays sound over every byte: no piece outgrows its room, and the numbers stay within a file's.
-use mathlib.Core.Path.{_≡_, refl, sym}
+use mathlib.Core.Path.{_≡_, refl, sym, _∙_}
 use mathlib.Core.Bool.{Bool, true, false, not, _&&_, _||_, true≢false}
 use mathlib.Core.List.{List, [], _∷_}
-use Prim.Native.Nat.{ℕ, _+_, _-_, _*_, _<_, _≤_}
+use Prim.Native.Nat.{ℕ, zero, suc, _+_, _-_, _*_, _/_, _<_, _≤_}
 use native.Mathlib.Omega.{arith}
 use lib.Dec.{ltb, leb, eqb}
-use borrow.Author.Tests.{eqb-true, eqb-false, leb-true, leb-false, ltb-true, not-true, eq-eqb, le-leb, lt-ltb}
+use borrow.Author.Tests.{ne-eqb, eqb-true, eqb-false, leb-true, leb-false, ltb-true, not-true, eq-eqb, le-leb, lt-leb, lt-ltb}
 use Rattle.answers.specs.Numbers.{tooLong, fileMax}
 use Rattle.byteorder.specs.Splice.{splice}
 use Rattle.format.specs.Desc.{formatAt, descSize}
@@ -13,16 +13,12 @@ use Rattle.format.specs.declared.AudioFormat.{AudioFormat}
 use Rattle.reading.specs.Types.{'caff', 'desc', 'data', version, negative}
 use Rattle.reading.specs.Step.{standsAt, sizeAt, badRateAt}
 use Rattle.reading.specs.Strict.{isBadDataSize}
-use Rattle.reading.proofs.Choice.{either}
-use Rattle.feeding.specs.Record.{fresh, pieceSize, isByBytes, rateIs, metWithin, phaseSound, sound}
+use Rattle.reading.proofs.Choice.{either, both}
+use Rattle.feeding.specs.Record.{fresh, pieceSize, isByBytes, rateIs, metWithin, headersBefore, phaseSound, sound}
 use Rattle.feeding.specs.Feed.{skipping, judgedHeader, judged, collected, took, isRefused, step1, feedBytes}
 use Rattle.feeding.specs.declared.Phase.{Phase}
 use Rattle.feeding.specs.declared.Phase.the-variants.{FileHeader, FirstHeader, Desc, Header, Skipping, Edit, InData, Refused}
 use Rattle.feeding.specs.declared.Feeder.{Feeder}
-
-split : (a b : Bool) → a && b ≡ true → (a ≡ true) × (b ≡ true)
-split true b e = (refl, e)
-split false b e = absurd (true≢false (sym e))
 
 join : {a b : Bool} → a ≡ true → b ≡ true → a && b ≡ true
 join x y = rw (x, y)
@@ -67,51 +63,60 @@ Facts n total k (Header f) = InHeader n total k f
 Facts n total k (Skipping f m) = InSkip total k f m
 Facts n total k (Edit f size) = InEdit n total k f size
 Facts n total k (InData f size start) = InPayload total k f size start
-Facts n total k (Refused number) = (12 * k ≤ total) × (isByBytes number || eqb number tooLong ≡ true)
+Facts n total k (Refused number) = (12 * k ≤ total) × (eqb number tooLong || isByBytes number ≡ true)
 
 met-facts : (k n : ℕ) → metWithin k n ≡ true → Met k n
-met-facts k n e = let (a, b) = split (leb 1 k) (leb (52 + 12 * (k - 1)) n) e in record { one = leb-true 1 k a; within = leb-true (52 + 12 * (k - 1)) n b }
+met-facts k n e = let (a, b) = both (leb 1 k) (leb (52 + 12 * (k - 1)) n) e in record { one = leb-true 1 k a; within = leb-true (52 + 12 * (k - 1)) n b }
+
+met-far : (k n m : ℕ) → Met k n → n ≤ m → Met k m
+met-far k n m a l = let b = a .within in record { one = a .one; within = omega arith }
+
+before-facts : (n bytes k : ℕ) (f : AudioFormat) → headersBefore n bytes k f ≡ true → InHeader n bytes k f
+before-facts n bytes k f e =
+    let (a, m) = both (rateIs f && leb n bytes) (metWithin k (bytes - n)) e in
+    let (r, l) = both (rateIs f) (leb n bytes) a in
+    record { rate = r; come = leb-true n bytes l; met = met-facts k (bytes - n) m }
 
 facts : (n total k : ℕ) (phase : Phase) → phaseSound n total k phase ≡ true → Facts n total k phase
 unfolding phaseSound
-facts n total k FileHeader e = let (a, b) = split (eqb total n) (eqb k 0) e in (eqb-true total n a, eqb-true k 0 b)
-facts n total k FirstHeader e = let (a, b) = split (eqb total (8 + n)) (eqb k 0) e in (eqb-true total (8 + n) a, eqb-true k 0 b)
-facts n total k Desc e = let (a, b) = split (eqb total (20 + n)) (eqb k 1) e in (eqb-true total (20 + n) a, eqb-true k 1 b)
-facts n total k (Header f) e =
-    let (a, m) = split (rateIs f && leb n total) (metWithin k (total - n)) e in
-    let (r, l) = split (rateIs f) (leb n total) a in
-    record { rate = r; come = leb-true n total l; met = met-facts k (total - n) m }
+facts n total k FileHeader e = let (a, b) = both (eqb total n) (eqb k 0) e in (eqb-true total n a, eqb-true k 0 b)
+facts n total k FirstHeader e = let (a, b) = both (eqb total (8 + n)) (eqb k 0) e in (eqb-true total (8 + n) a, eqb-true k 0 b)
+facts n total k Desc e = let (a, b) = both (eqb total (20 + n)) (eqb k 1) e in (eqb-true total (20 + n) a, eqb-true k 1 b)
+facts n total k (Header f) e = before-facts n total k f e
 facts n total k (Skipping f m) e =
-    let (a, l) = split (rateIs f && metWithin k total && leb 1 m) (ltb m negative) e in
-    let (b, s) = split (rateIs f && metWithin k total) (leb 1 m) a in
-    let (r, w) = split (rateIs f) (metWithin k total) b in
-    record { rate = r; met = met-facts k total w; some = leb-true 1 m s; few = ltb-true m negative l }
+    let (a, l) = both (headersBefore 0 total k f && leb 1 m) (ltb m negative) e in
+    let (b, s) = both (headersBefore 0 total k f) (leb 1 m) a in
+    let h = before-facts 0 total k f b in
+    record { rate = h .rate; met = met-far k (total - 0) total (h .met) (omega arith); some = leb-true 1 m s; few = ltb-true m negative l }
 facts n total k (Edit f size) e =
-    let (a, p) = split (rateIs f && leb n total && metWithin k (total - n)) (not (isBadDataSize size)) e in
-    let (b, m) = split (rateIs f && leb n total) (metWithin k (total - n)) a in
-    let (r, l) = split (rateIs f) (leb n total) b in
-    record { rate = r; come = leb-true n total l; met = met-facts k (total - n) m; possible = not-true (isBadDataSize size) p }
+    let (a, p) = both (headersBefore n total k f) (not (isBadDataSize size)) e in
+    let h = before-facts n total k f a in
+    record { rate = h .rate; come = h .come; met = h .met; possible = not-true (isBadDataSize size) p }
 facts n total k (InData f size start) e =
-    let (a, p) = split (rateIs f && leb start total && leb 4 start && metWithin k (start - 4)) (not (isBadDataSize size)) e in
-    let (b, m) = split (rateIs f && leb start total && leb 4 start) (metWithin k (start - 4)) a in
-    let (c, d) = split (rateIs f && leb start total) (leb 4 start) b in
-    let (r, l) = split (rateIs f) (leb start total) c in
-    record { rate = r; past = leb-true start total l; edit = leb-true 4 start d; met = met-facts k (start - 4) m; possible = not-true (isBadDataSize size) p }
-facts n total k (Refused number) e = let (a, b) = split (leb (12 * k) total) (isByBytes number || eqb number tooLong) e in (leb-true (12 * k) total a, b)
+    let (a, p) = both (leb start total && headersBefore 4 start k f) (not (isBadDataSize size)) e in
+    let (l, b) = both (leb start total) (headersBefore 4 start k f) a in
+    let h = before-facts 4 start k f b in
+    record { rate = h .rate; past = leb-true start total l; edit = h .come; met = h .met; possible = not-true (isBadDataSize size) p }
+facts n total k (Refused number) e = let (a, b) = both (leb (12 * k) total) (eqb number tooLong || isByBytes number) e in (leb-true (12 * k) total a, b)
 
 met-tests : (k n : ℕ) → Met k n → metWithin k n ≡ true
 met-tests k n m = join (le-leb 1 k (m .one)) (le-leb (52 + 12 * (k - 1)) n (m .within))
+
+before-tests : (n bytes k : ℕ) (f : AudioFormat) → InHeader n bytes k f → headersBefore n bytes k f ≡ true
+before-tests n bytes k f a = join (join (a .rate) (le-leb n bytes (a .come))) (met-tests k (bytes - n) (a .met))
 
 tests : (n total k : ℕ) (phase : Phase) → Facts n total k phase → phaseSound n total k phase ≡ true
 unfolding phaseSound
 tests n total k FileHeader a = join (eq-eqb total n (a .0)) (eq-eqb k 0 (a .1))
 tests n total k FirstHeader a = join (eq-eqb total (8 + n) (a .0)) (eq-eqb k 0 (a .1))
 tests n total k Desc a = join (eq-eqb total (20 + n) (a .0)) (eq-eqb k 1 (a .1))
-tests n total k (Header f) a = join (join (a .rate) (le-leb n total (a .come))) (met-tests k (total - n) (a .met))
-tests n total k (Skipping f m) a = join (join (join (a .rate) (met-tests k total (a .met))) (le-leb 1 m (a .some))) (lt-ltb m negative (a .few))
-tests n total k (Edit f size) a = join (join (join (a .rate) (le-leb n total (a .come))) (met-tests k (total - n) (a .met))) (not-is (a .possible))
+tests n total k (Header f) a = before-tests n total k f a
+tests n total k (Skipping f m) a =
+    join (join (before-tests 0 total k f (record { rate = a .rate; come = omega arith; met = met-far k total (total - 0) (a .met) (omega arith) }))
+    (le-leb 1 m (a .some))) (lt-ltb m negative (a .few))
+tests n total k (Edit f size) a = join (before-tests n total k f (record { rate = a .rate; come = a .come; met = a .met })) (not-is (a .possible))
 tests n total k (InData f size start) a =
-    join (join (join (join (a .rate) (le-leb start total (a .past))) (le-leb 4 start (a .edit))) (met-tests k (start - 4) (a .met))) (not-is (a .possible))
+    join (join (le-leb start total (a .past)) (before-tests 4 start k f (record { rate = a .rate; come = a .edit; met = a .met }))) (not-is (a .possible))
 tests n total k (Refused number) a = join (le-leb (12 * k) total (a .0)) (a .1)
 
 pub record Sound (r : Feeder) : Type 0 where
@@ -122,8 +127,8 @@ pub record Sound (r : Feeder) : Type 0 where
 pub sound-facts : (r : Feeder) → sound r ≡ true → Sound r
 unfolding sound
 sound-facts r e =
-    let (a, b) = split (leb (r .total) fileMax && leb (r .count) (pieceSize (r .phase) - 1)) (phaseSound (r .count) (r .total) (r .chunks) (r .phase)) e in
-    let (c, d) = split (leb (r .total) fileMax) (leb (r .count) (pieceSize (r .phase) - 1)) a in
+    let (a, b) = both (leb (r .total) fileMax && leb (r .count) (pieceSize (r .phase) - 1)) (phaseSound (r .count) (r .total) (r .chunks) (r .phase)) e in
+    let (c, d) = both (leb (r .total) fileMax) (leb (r .count) (pieceSize (r .phase) - 1)) a in
     record {
       total = leb-true (r .total) fileMax c;
       few = leb-true (r .count) (pieceSize (r .phase) - 1) d;
@@ -140,15 +145,12 @@ sound-tests r a =
 met-more : (k n : ℕ) → Met k n → Met (k + 1) (n + 12)
 met-more k n m = let a = m .one in let b = m .within in record { one = omega arith; within = omega arith }
 
-met-far : (k n m : ℕ) → Met k n → n ≤ m → Met k m
-met-far k n m a l = let b = a .within in record { one = a .one; within = omega arith }
-
 -- what is whole at t bytes is sound behind its piece
 module _ (h : List ℕ) (t : ℕ) (room : t ≤ fileMax) where
   abbrev Behind : ℕ → Phase → Type 0
   Behind k phase = Sound (record { phase = phase; held = h; count = 0; total = t; chunks = k })
 
-  refuses : (k number : ℕ) → 12 * k ≤ t → isByBytes number || eqb number tooLong ≡ true → Behind k (Refused number)
+  refuses : (k number : ℕ) → 12 * k ≤ t → eqb number tooLong || isByBytes number ≡ true → Behind k (Refused number)
   refuses k number l e = record { total = room; few = omega arith; facts = (l, e) }
 
   file-behind : t ≡ 8 → Behind 0 (judged h t FileHeader)
@@ -243,7 +245,7 @@ module _ (h : List ℕ) (n t k b : ℕ) (room : t < fileMax) where
   took-sound (Refused number) x l a = absurd (true≢false x)
 
 -- a record that is fed too much
-chunks-few : (n t k : ℕ) (phase : Phase) → Facts n t k phase → 12 * k ≤ t
+pub chunks-few : (n t k : ℕ) (phase : Phase) → Facts n t k phase → 12 * k ≤ t
 chunks-few n t k FileHeader a = omega arith
 chunks-few n t k FirstHeader a = omega arith
 chunks-few n t k Desc a = omega arith
@@ -267,3 +269,20 @@ bytes-sound (b ∷ bs) r a = bytes-sound bs (step1 r b) (step-sound r b a)
 
 pub fresh-sound : Sound fresh
 fresh-sound = record { total = omega arith; few = omega arith; facts = (refl, refl) }
+
+-- where no piece is collected, no byte is held
+pub none-held : (n : ℕ) → eqb n 0 ≡ leb n 0
+none-held zero = refl
+none-held (suc n) = ne-eqb (suc n) 0 (λ e. let z : ⊥ = omega arith in z) ∙ sym (lt-leb (suc n) 0 (omega arith))
+
+-- the test of the headers by division: no number outgrows 64 bits
+pub met-divided : (k n : ℕ) → 1 ≤ k → 52 ≤ n → leb (k - 1) ((n - 52) / 12) ≡ metWithin k n
+met-divided k n a b = rw (le-leb 1 k a) (by (leb (k - 1) ((n - 52) / 12)) refl)
+  where
+    by : (x : Bool) → leb (k - 1) ((n - 52) / 12) ≡ x → x ≡ leb (52 + 12 * (k - 1)) n
+    by true e = sym (le-leb (52 + 12 * (k - 1)) n (let l = leb-true (k - 1) ((n - 52) / 12) e in omega arith))
+    by false e = sym (lt-leb (52 + 12 * (k - 1)) n (let l = leb-false (k - 1) ((n - 52) / 12) e in omega arith))
+
+-- a sound record that stands in the data
+pub in-data : (r : Feeder) {f : AudioFormat} {size start : ℕ} → sound r ≡ true → r .phase ≡ InData f size start → InPayload (r .total) (r .chunks) f size start
+in-data r s e = rw e at (sound-facts r s .facts)

@@ -1,0 +1,185 @@
+// Whether calls may have made a record. One that a caller made up is refused, so that nothing else has to be tested.
+use crate::Feeder;
+use crate::Phase;
+use crate::pieces::piece_size;
+use answers::BAD_DESC;
+use answers::BAD_RATE;
+use answers::BAD_SIZE;
+use answers::BAD_VERSION;
+use answers::FILE_MAX;
+use answers::NOT_CAF;
+use answers::TOO_LONG;
+use byteorder::float::is_not_a_number;
+use format::AudioFormat;
+use reading::chunk::is_bad_data_size;
+use reading::sizes::CHUNK_HEADER;
+use reading::sizes::DESC;
+use reading::sizes::EDIT_COUNT;
+use reading::sizes::FILE_HEADER;
+use reading::sizes::NEGATIVE;
+ghost use mathlib.Core.Path.{_≡_};
+ghost use Prim.Native.Nat.{_-_, _≤_};
+ghost use lib.Dec.{leb};
+ghost use Rattle.feeding.specs.declared.Phase.the-variants.{Skipping as feeding·Skipping, Edit as feeding·Edit, InData as feeding·InData, Refused as feeding·Refused};
+ghost use Rattle.feeding.specs.Record.{pieceSize, isByBytes, rateIs, metWithin, headersBefore, phaseSound, sound};
+
+// Where the first chunk's body begins, and what stands before the second chunk.
+const FIRST_BODY: usize = FILE_HEADER + CHUNK_HEADER;
+
+const BEHIND_FIRST: usize = FIRST_BODY + DESC;
+
+fn rate_is(format: AudioFormat) -> bool
+    ensures { λ b. ⌜ b ≡ rateIs format ⌝ }
+{
+    !is_not_a_number(format.sample_rate)
+}
+
+// Divided, since a count that a caller made up may be too large to multiply.
+fn met_within(k: usize, n: usize) -> bool
+    ensures { λ b. ⌜ b ≡ metWithin k n ⌝ }
+{
+    if k < 1 {
+        return false;
+    }
+    if n < BEHIND_FIRST {
+        return false;
+    }
+    k - 1 <= (n - BEHIND_FIRST) / CHUNK_HEADER
+}
+
+pub(crate) fn is_by_bytes(number: u32) -> bool
+    ensures { λ b. ⌜ b ≡ isByBytes number ⌝ }
+{
+    if number == NOT_CAF {
+        return true;
+    }
+    if number == BAD_VERSION {
+        return true;
+    }
+    if number == BAD_DESC {
+        return true;
+    }
+    if number == BAD_RATE {
+        return true;
+    }
+    number == BAD_SIZE
+}
+
+// The k headers stand before the last n of so many bytes.
+fn headers_before(n: usize, bytes: usize, k: usize, format: AudioFormat) -> bool
+    ensures { λ b. ⌜ b ≡ headersBefore n bytes k format ⌝ }
+{
+    if !rate_is(format) {
+        return false;
+    }
+    if bytes < n {
+        return false;
+    }
+    met_within(k, bytes - n)
+}
+
+fn skipping_sound(n: usize, total: usize, k: usize, format: AudioFormat, left: usize) -> bool
+    ensures { λ b. ⌜ b ≡ phaseSound n total k (feeding·Skipping format left) ⌝ }
+{
+    if !headers_before(0, total, k, format) {
+        return false;
+    }
+    if left < 1 {
+        return false;
+    }
+    left < NEGATIVE as usize
+}
+
+fn edit_sound(n: usize, total: usize, k: usize, format: AudioFormat, size: usize) -> bool
+    ensures { λ b. ⌜ b ≡ phaseSound n total k (feeding·Edit format size) ⌝ }
+{
+    if !headers_before(n, total, k, format) {
+        return false;
+    }
+    !is_bad_data_size(size as u64)
+}
+
+fn data_sound(
+    n: usize,
+    total: usize,
+    k: usize,
+    format: AudioFormat,
+    size: usize,
+    start: usize,
+) -> bool
+    ensures { λ b. ⌜ b ≡ phaseSound n total k (feeding·InData format size start) ⌝ }
+{
+    if total < start {
+        return false;
+    }
+    if !headers_before(EDIT_COUNT, start, k, format) {
+        return false;
+    }
+    !is_bad_data_size(size as u64)
+}
+
+fn refused_sound(n: usize, total: usize, k: usize, number: u32) -> bool
+    ensures { λ b. ⌜ b ≡ phaseSound n total k (feeding·Refused number) ⌝ }
+{
+    if total / CHUNK_HEADER < k {
+        return false;
+    }
+    if number == TOO_LONG {
+        return true;
+    }
+    is_by_bytes(number)
+}
+
+fn phase_sound(n: usize, total: usize, k: usize, phase: Phase) -> bool
+    requires { ⌜ n ≤ pieceSize phase - 1 ⌝ }
+    ensures { λ b. ⌜ b ≡ phaseSound n total k phase ⌝ }
+{
+    match phase {
+        Phase::FileHeader => {
+            if total != n {
+                return false;
+            }
+            k == 0
+        }
+        Phase::FirstHeader => {
+            if total != FILE_HEADER + n {
+                return false;
+            }
+            k == 0
+        }
+        Phase::Desc => {
+            if total != FIRST_BODY + n {
+                return false;
+            }
+            k == 1
+        }
+        Phase::Header(format) => headers_before(n, total, k, format),
+        Phase::Skipping(format, left) => skipping_sound(n, total, k, format, left),
+        Phase::Edit(format, size) => edit_sound(n, total, k, format, size),
+        Phase::InData(format, size, start) => data_sound(n, total, k, format, size, start),
+        Phase::Refused(number) => refused_sound(n, total, k, number),
+    }
+}
+
+// Fewer bytes are held than the piece has, and none where there is no piece.
+fn held_few(count: usize, size: usize) -> bool
+    ensures { λ b. ⌜ b ≡ leb count (size - 1) ⌝ }
+{
+    if size == 0 {
+        return count == 0;
+    }
+    count <= size - 1
+}
+
+pub(crate) fn is_sound(r: Feeder) -> bool
+    ensures { λ b. ⌜ b ≡ sound r ⌝ }
+{
+    if FILE_MAX < r.total {
+        return false;
+    }
+    let phase = r.phase;
+    if !held_few(r.count, piece_size(phase)) {
+        return false;
+    }
+    phase_sound(r.count, r.total, r.chunks, phase)
+}
