@@ -37,7 +37,8 @@ enum caf_number {
     CAF_TOO_MANY_LABELS = 17,
     CAF_BAD_TAG = 18,
     CAF_BAD_WRITER = 19,
-    CAF_ODD_LENGTH = 20
+    CAF_ODD_LENGTH = 20,
+    CAF_TOO_LONG = 21
 };
 
 /* ---- the readings */
@@ -88,6 +89,51 @@ enum caf_strict_place {
  * else. With fewer than CAF_STRICT_PLACES places: CAF_NO_ROOM, and writes nothing. It never writes
  * behind out[12], and not to the file. */
 uint32_t caf_read_strict(const uint8_t *file, size_t file_len, uint64_t *out, size_t out_len);
+
+/* ---- the strict reading of a film that comes in blocks
+ *
+ * For films of any length, in blocks of any length: no block is kept, and a block costs its chunk
+ * headers, not its bytes. However the film is cut, blocks without bytes included, caf_feed_end gives
+ * what caf_read_strict gives for the blocks joined.
+ *
+ *     uint64_t feeder[CAF_FEEDER], out[CAF_STRICT_PLACES];
+ *     caf_feed_begin(feeder, CAF_FEEDER);
+ *     while ((n = read(fd, block, sizeof block)) > 0 &&
+ *            caf_feed(feeder, CAF_FEEDER, block, (size_t)n) == CAF_DONE)
+ *         ;
+ *     number = caf_feed_end(feeder, CAF_FEEDER, out, CAF_STRICT_PLACES);
+ *
+ * (A read that fails is not the end of a film: look at n before caf_feed_end is believed.)
+ *
+ * The caller keeps the feeding record, CAF_FEEDER numbers. They are the library's own: the places are
+ * named for tests. An array of another length, or one whose numbers no calls make, is an unsound
+ * record: CAF_BAD_WRITER, and the array keeps its contents. */
+enum caf_feeder_place {
+    CAF_FEEDER_PHASE = 0,    /* 0 to 7: what is waited for; 7 after a refusal */
+    CAF_FEEDER_RATE = 1,     /* this and the six behind it: the format, once it was read, as in caf_strict_place */
+    CAF_FEEDER_FORMAT_ID = 2, /* this and the five behind it: 32 bits */
+    CAF_FEEDER_NUMBER = 8,   /* bytes of a body to come, the data chunk's size field, or the refusal */
+    CAF_FEEDER_START = 9,    /* where the data start */
+    CAF_FEEDER_COUNT = 10,   /* bytes held of a header or description that a block cut in two */
+    CAF_FEEDER_TOTAL = 11,   /* bytes fed */
+    CAF_FEEDER_CHUNKS = 12,  /* whole chunk headers met */
+    CAF_FEEDER_HELD = 13,    /* those bytes, eight in a number */
+    CAF_FEEDER = 17
+};
+
+/* A record that no byte was fed. Writes feeder[0..16]. An array of another length: CAF_BAD_WRITER,
+ * and writes nothing. */
+uint32_t caf_feed_begin(uint64_t *feeder, size_t feeder_len);
+
+/* Feeds a block. Writes the next record, also where it gives a refusal: one that the bytes so far are
+ * enough for (2, 4, 5, 6 or 7), or CAF_TOO_LONG for more than 2^63 - 1 bytes in all. After a refusal
+ * further blocks change nothing and give the same number. */
+uint32_t caf_feed(uint64_t *feeder, size_t feeder_len, const uint8_t *block, size_t block_len);
+
+/* The answer for all that was fed; fills out as caf_read_strict does. The record is only read, so
+ * that more may be fed afterwards, and a second end answers the same. With fewer than
+ * CAF_STRICT_PLACES places: CAF_NO_ROOM, and writes nothing. */
+uint32_t caf_feed_end(const uint64_t *feeder, size_t feeder_len, uint64_t *out, size_t out_len);
 
 /* ---- layouts */
 

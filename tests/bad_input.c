@@ -1,4 +1,4 @@
-/* Every exported call with slices of no elements, with room one short, and with records of random numbers. What is held: the number
+/* Every exported call with slices of no elements, with room one short, and with records of random numbers, the writer's and the feeder's. What is held: the number
  * is one of the table's and, where it is told here, the right one; a refused call leaves every place that it was lent as it was;
  * places behind a result keep their contents. Under valgrind it also shows that no other byte is touched. */
 #include <stdio.h>
@@ -188,10 +188,60 @@ static void random_records(void) {
     }
 }
 
+/* The example fed, and the feeding record with no elements, with a place too few or too many, and made up. */
+static void feeders(void) {
+    static const uint8_t front[20] = {'c', 'a', 'f', 'f', 0, 1, 0, 0, 'd', 'e', 's', 'c', 0, 0, 0, 0, 0, 0, 0, 32};
+    uint64_t feeder[CAF_FEEDER], out[CAF_STRICT_PLACES];
+    size_t k, len;
+    int round;
+
+    memset(out, 0xEE, sizeof out);
+    HOLDS(caf_feed_begin(NULL, 0) == CAF_BAD_WRITER);
+    HOLDS(caf_feed_begin(feeder, CAF_FEEDER - 1) == CAF_BAD_WRITER);
+    HOLDS(caf_feed(NULL, 0, bytes, 5) == CAF_BAD_WRITER);
+    HOLDS(caf_feed_end(NULL, 0, out, CAF_STRICT_PLACES) == CAF_BAD_WRITER && out[0] == 0 && out[1] == 0xEEEEEEEEEEEEEEEEu);
+    HOLDS(caf_feed_end(NULL, 0, NULL, 0) == CAF_NO_ROOM);
+    HOLDS(caf_feed_begin(feeder, CAF_FEEDER) == CAF_DONE);
+    HOLDS(caf_feed(feeder, CAF_FEEDER, NULL, 0) == CAF_DONE);
+    HOLDS(caf_feed_end(feeder, CAF_FEEDER, out, CAF_STRICT_PLACES) == CAF_CUT_SHORT);
+    HOLDS(caf_feed_end(feeder, CAF_FEEDER, out, CAF_STRICT_PLACES - 1) == CAF_NO_ROOM);
+    HOLDS(caf_feed(feeder, CAF_FEEDER, front, 20) == CAF_DONE && feeder[CAF_FEEDER_CHUNKS] == 1 && feeder[CAF_FEEDER_TOTAL] == 20);
+    HOLDS(caf_feed_end(feeder, CAF_FEEDER, out, CAF_STRICT_PLACES) == CAF_CUT_SHORT && out[0] == 1);
+    feeder[CAF_FEEDER_CHUNKS] = 2;
+    HOLDS(caf_feed(feeder, CAF_FEEDER, front, 20) == CAF_BAD_WRITER && feeder[CAF_FEEDER_TOTAL] == 20);
+
+    for (round = 0; round < 2000; round++) {
+        uint64_t *made, *kept;
+        uint32_t number;
+
+        HOLDS(caf_feed_begin(feeder, CAF_FEEDER) == CAF_DONE);
+        for (k = next() % 20; k > 0; k--)
+            caf_feed(feeder, CAF_FEEDER, front + 20 - k, 1);
+        if (round % 2)
+            for (k = 0; k < CAF_FEEDER; k++)
+                feeder[k] = next() >> (next() % 64);
+        feeder[CAF_FEEDER_PHASE] = next() % 9;
+        feeder[next() % CAF_FEEDER] = next() >> (next() % 64);
+        len = next() % 4 ? CAF_FEEDER : next() % (CAF_FEEDER + 1);
+        made = copy_of(feeder, len * sizeof *made);
+        kept = copy_of(feeder, len * sizeof *kept);
+        number = caf_feed(made, len, front, next() % 21);
+        HOLDS(number <= CAF_TOO_LONG);
+        if (len != CAF_FEEDER)
+            HOLDS(number == CAF_BAD_WRITER);
+        if (number == CAF_BAD_WRITER)
+            HOLDS(memcmp(made, kept, len * sizeof *made) == 0);
+        HOLDS((caf_feed_end(kept, len, out, CAF_STRICT_PLACES) == CAF_BAD_WRITER) == (number == CAF_BAD_WRITER));
+        free(made);
+        free(kept);
+    }
+}
+
 int main(void) {
     no_elements();
     example();
     random_records();
+    feeders();
     printf("bad_input: %lu checks hold\n", checks);
     return 0;
 }

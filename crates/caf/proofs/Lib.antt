@@ -4,3 +4,4 @@ pub mod Words
 pub mod Records
 pub mod Puts
 pub mod Calls
+pub mod Feeders

@@ -1,11 +1,10 @@
 -- A rate and its 64 bits where one of them is a not-a-number.
-use mathlib.Core.Path.{_≡_, refl, sym, _∙_}
+use mathlib.Core.Path.{_≡_, refl}
 use mathlib.Core.Bool.{Bool, true, false, cond}
 use Prim.Native.Nat.{ℕ}
 use lib.Ieee.{Float, nan, inf, fin, isNan, toBits, ofBits, ofFields, odd, div, binary64}
 use Rattle.byteorder.specs.Rate.{rateBits}
 use Rattle.byteorder.specs.RateAnswers.{bitsFrom}
-use Rattle.byteorder.specs.declared.RateBits.{RateBits}
 use Rattle.byteorder.specs.declared.RateBits.the-variants.{Bits, NotANumber}
 
 given : (b : Bool) (n m : ℕ) → cond b NotANumber (Bits n) ≡ Bits m → m ≡ n

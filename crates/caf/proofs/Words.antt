@@ -9,7 +9,7 @@ use lib.ListN.{length, getD, set, take, drop, length-take, length-drop}
 use lib.Seq.{getD-take, getD-drop, paste-suc}
 use native.Mathlib.Nat.{zero-add}
 use borrow.Author.Tests.{lt-ltb, le-ltb, ltb-true, ne-eqb}
-use Rattle.caf.specs.RecordNumbers.{recordPlaces, at, isWord, allWords, formatFits}
+use Rattle.caf.specs.RecordNumbers.{at, isWord, allWords, formatFits}
 
 pub both : (a b : Bool) → a && b ≡ true → (a ≡ true) × (b ≡ true)
 both true b e = (refl, e)
@@ -54,6 +54,6 @@ module _ (s : List ℕ) (p n : ℕ) (within : p + n ≤ length s) where
   part-no k h l = words-no (take n (drop p s)) k (rw part-length h) (rw (part-get k h) l)
 
 -- the six numbers of a format that is there
-pub format-words : (ns : List ℕ) → length ns ≡ recordPlaces → formatFits ns ≡ true → (at ns 0 ≡ 0 → ⊥) → (k : ℕ) → k < 6 → getD ns (2 + k) 0 < 2 ^ 32
+pub format-words : (ns : List ℕ) → formatFits ns ≡ true → (at ns 0 ≡ 0 → ⊥) → allWords (take 6 (drop 2 ns)) ≡ true
 unfolding formatFits
-format-words ns l e some k h = part-at ns 2 6 (omega arith) (both (eqb (at ns 0) 1) _ (rw (ne-eqb _ _ some) at e) .1) k h
+format-words ns e some = both (eqb (at ns 0) 1) _ (rw (ne-eqb _ _ some) at e) .1

@@ -5,3 +5,5 @@ pub mod RecordNumbers
 pub mod LayoutNumbers
 pub mod RecordCalls
 pub mod RecordMade
+pub mod FeederNumbers
+pub mod FeederCalls

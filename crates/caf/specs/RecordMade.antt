@@ -4,11 +4,10 @@ use Prim.Native.Nat.{ℕ}
 use mathlib.Core.Bool.{cond}
 use mathlib.Core.List.{List, [], _∷_}
 use lib.ListN.{length}
-use lib.Dec.{eqb, ltb}
+use lib.Dec.{eqb}
 use Rattle.answers.specs.Numbers.{done, badWriter, noRoom}
 use Rattle.byteorder.specs.Splice.{splice}
 use Rattle.writer.specs.Record.{fresh, statsOf}
-use Rattle.writer.specs.declared.CAFWriter.{CAFWriter}
 use Rattle.writer.specs.declared.CAFWriterStats.{CAFWriterStats}
 use Rattle.writer.specs.declared.Resumed.{Resumed}
 use Rattle.caf.specs.FormatNumbers.{flagNumber}

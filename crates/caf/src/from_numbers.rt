@@ -1,16 +1,16 @@
 // The writer record read from the array that a caller keeps.
-use byteorder::Rate;
-use byteorder::float::rate_from_bits;
-use format::AudioFormat;
+use crate::format_from::WORDS;
+use crate::format_from::audio_of;
+use crate::format_from::word;
+use crate::format_from::words;
 use format::Endianness;
 use format::MaybeFormat;
 use layout::ChannelLayout;
 use writer::CAFWriter;
 ghost use mathlib.Core.Path.{_≡_};
 ghost use mathlib.Core.Bool.{true};
-ghost use Prim.Native.Nat.{_+_, _≤_, _<_, _^_};
-ghost use lib.ListN.{length, take, drop, getD};
-ghost use Rattle.byteorder.specs.Rate.{rateOf};
+ghost use Prim.Native.Nat.{_+_, _<_};
+ghost use lib.ListN.{length, getD};
 ghost use Rattle.caf.specs.RecordNumbers.{recordPlaces, allWords, formatFits, layoutFits, isRecord, maybeOf, orderOf, layoutOf, labelsIn, recordOf};
 
 pub(crate) const RECORD_PLACES: usize = 82;
@@ -38,23 +38,6 @@ pub(crate) const DESCRIBED: u64 = 2;
 
 // The tag's place where there is none.
 pub(crate) const NO_TAG: u64 = 0;
-
-// The numbers from here on do not fit 32 bits.
-const WORDS: u64 = 0x1_0000_0000;
-
-fn words(numbers: &[u64], from: usize, n: usize) -> bool
-    requires { ⌜ from + n ≤ length (now numbers) ⌝ }
-    ensures { λ r. ⌜ r ≡ allWords (take n (drop from (now (numbers .entry)))) ⌝ }
-{
-    let mut i: usize = 0;
-    while i < n {
-        if WORDS <= numbers[from + i] {
-            return false;
-        }
-        i += 1;
-    }
-    true
-}
 
 fn format_fits(numbers: &[u64]) -> bool
     requires { ⌜ length (now numbers) ≡ recordPlaces ⌝ }
@@ -106,24 +89,6 @@ pub(crate) fn is_record(numbers: &[u64]) -> bool
     numbers[FINISHED] < 2
 }
 
-// Every not-a-number pattern stands for the one not-a-number.
-fn rate_of(bits: u64) -> f64
-    ensures { λ r. ⌜ r ≡ rateOf bits ⌝ }
-{
-    let rate = rate_from_bits(bits);
-    match rate {
-        Rate::Number(x) => x,
-        Rate::NotANumber => 0.0 / 0.0,
-    }
-}
-
-fn word(numbers: &[u64], at: usize) -> u32
-    requires { ⌜ (at < length (now numbers)) × (getD (now numbers) at 0 < 2 ^ 32) ⌝ }
-    ensures { λ r. ⌜ r ≡ getD (now (numbers .entry)) at 0 ⌝ }
-{
-    numbers[at] as u32
-}
-
 fn format_of(numbers: &[u64]) -> MaybeFormat
     requires { ⌜ (length (now numbers) ≡ recordPlaces) × (formatFits (now numbers) ≡ true) ⌝ }
     ensures { λ r. ⌜ r ≡ maybeOf (now (numbers .entry)) ⌝ }
@@ -131,15 +96,7 @@ fn format_of(numbers: &[u64]) -> MaybeFormat
     if numbers[0] == 0 {
         return MaybeFormat::Absent;
     }
-    MaybeFormat::Present(AudioFormat {
-        sample_rate: rate_of(numbers[1]),
-        format_id: word(numbers, 2),
-        format_flags: word(numbers, 3),
-        bytes_per_packet: word(numbers, 4),
-        frames_per_packet: word(numbers, 5),
-        channels_per_frame: word(numbers, 6),
-        bits_per_channel: word(numbers, 7),
-    })
+    MaybeFormat::Present(audio_of(numbers))
 }
 
 fn order_of(n: u64) -> Endianness

@@ -1,7 +1,11 @@
 // What C and Rust link as libcaf.a; include/caf.h declares it. A slice is passed as a pointer and a length, and every call takes
 // any lengths and any contents: none has a `requires`.
+pub mod blocks;
 mod choices;
 pub mod counted;
+mod feeder_from;
+mod feeder_to;
+mod format_from;
 mod format_numbers;
 mod from_numbers;
 mod kept;

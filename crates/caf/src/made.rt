@@ -14,9 +14,7 @@ ghost use mathlib.Core.Path.{_≡_};
 ghost use Prim.Native.Nat.{_≤_};
 ghost use lib.ListN.{length};
 ghost use Rattle.byteorder.specs.Splice.{splice};
-ghost use Rattle.writer.specs.Record.{fresh};
 ghost use Rattle.writer.specs.Resume.{resumed};
-ghost use Rattle.caf.specs.RecordNumbers.{recordNumbers};
 ghost use Rattle.caf.specs.RecordMade.{newNumber, newRecord, ResumeCall, statsPlaces, statsNumbers, StatsCall};
 
 const STATS_PLACES: usize = 2;

@@ -26,7 +26,7 @@ ghost use Rattle.caf.specs.Lent.{numberGiven, lentAfter};
 
 const PLAIN_PLACES: usize = 12;
 
-const STRICT_PLACES: usize = 13;
+pub(crate) const STRICT_PLACES: usize = 13;
 
 fn put_found(out: &mut [u64], info: CAFFileInfo, chunks: usize)
     requires { ⌜ plainPlaces ≤ length (now out) ⌝ }
@@ -64,6 +64,24 @@ fn put_accepted(out: &mut [u64], info: StrictInfo, chunks: usize)
     put(out, 8, &places);
 }
 
+// A strict answer: its number is given back, its other numbers go to the array.
+pub(crate) fn tell_strict(out: &mut [u64], answer: StrictAnswer) -> u32
+    requires { ⌜ strictPlaces ≤ length (now out) ⌝ }
+    ensures { λ r. ⌜ (r ≡ strictNumber answer) × (now (out .exit) ≡ splice (now (out .entry)) 0 (strictNumbers answer)) ⌝ }
+{
+    match answer {
+        StrictAnswer::Rejected(number, chunks) => {
+            let count = [chunks as u64];
+            put(out, 0, &count);
+            number
+        }
+        StrictAnswer::Accepted(info, chunks) => {
+            put_accepted(out, info, chunks);
+            DONE
+        }
+    }
+}
+
 #[no_mangle]
 pub extern "C" fn caf_parse(file: &[u8], out: &mut [u64]) -> u32
     ensures { λ r. ⌜ r ≡ numberGiven plainPlaces (now (out .entry)) (plainNumber (plain (now (file .entry)))) ⌝ }
@@ -95,15 +113,5 @@ pub extern "C" fn caf_read_strict(file: &[u8], out: &mut [u64]) -> u32
         return NO_ROOM;
     }
     let answer = read_strict(file);
-    match answer {
-        StrictAnswer::Rejected(number, chunks) => {
-            let count = [chunks as u64];
-            put(out, 0, &count);
-            number
-        }
-        StrictAnswer::Accepted(info, chunks) => {
-            put_accepted(out, info, chunks);
-            DONE
-        }
-    }
+    tell_strict(out, answer)
 }

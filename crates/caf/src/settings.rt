@@ -5,7 +5,6 @@ use crate::from_numbers::is_record;
 use crate::from_numbers::record_of;
 use crate::kept::keep;
 use answers::BAD_WRITER;
-ghost use mathlib.Core.Path.{_≡_};
 ghost use Rattle.writer.specs.Settings.{formatCall, tagCall, labelsCall, configureCall};
 ghost use Rattle.caf.specs.FormatNumbers.{byteOrder, sampleType};
 ghost use Rattle.caf.specs.RecordCalls.{callOn, Set};

@@ -3,7 +3,6 @@ use crate::from_numbers::is_record;
 use crate::from_numbers::record_of;
 use crate::kept::keep;
 use answers::BAD_WRITER;
-ghost use mathlib.Core.Path.{_≡_};
 ghost use lib.ListN.{length};
 ghost use Rattle.writer.specs.Header.{headerCall};
 ghost use Rattle.writer.specs.Data.{dataCall, samplesCall};

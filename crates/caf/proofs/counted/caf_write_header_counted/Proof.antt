@@ -3,7 +3,7 @@ use Rattle.writer.specs.Header.{headerCall}
 use lib.ListN.{length}
 use Rattle.writer.specs.declared.CAFWriter.{CAFWriter}
 use borrow.Author.Tests.{not-true, not-false}
-use mathlib.Core.Path.{_≡_, sym, _∙_}
+use mathlib.Core.Path.{sym, _∙_}
 use borrow.Author.Needs.{needs}
 use Rattle.caf.proofs.counted.caf_write_header_counted.Statement.{statement}
 use Rattle.caf.proofs.counted.caf_write_header_counted.Tie as tie

@@ -2,11 +2,11 @@ use Rattle.caf.proofs.Words.{filled}
 use lib.ListN.{take}
 use mathlib.Core.List.{_++_}
 use Rattle.caf.proofs.Words.{part-at}
-use lib.Seq.{paste, paste-zero, paste-suc, getD-drop}
-use lib.ListN.{length, drop, length-set, length-drop, getD}
+use lib.Seq.{getD-drop}
+use lib.ListN.{length, drop, length-set, length-drop}
 use native.Mathlib.Omega.{arith}
 use native.Mathlib.Numerals.{add-one}
-use Prim.Native.Nat.{ℕ, _+_, _-_, _<_, _≤_}
+use Prim.Native.Nat.{_-_, _<_, _≤_}
 use mathlib.Core.List.{append-nil}
 use mathlib.Core.Path.{_≡_, refl, _∙_}
 use borrow.Author.Needs.{needs}

@@ -1,7 +1,6 @@
 use Rattle.caf.specs.RecordNumbers.{recordOf}
 use Rattle.caf.proofs.Records.{is-record}
 use native.Mathlib.Omega.{arith}
-use mathlib.Core.Path.{_≡_}
 use borrow.Author.Needs.{needs}
 use Rattle.caf.proofs.from_numbers.record_of.Statement.{statement}
 use Rattle.caf.proofs.from_numbers.record_of.Tie as tie

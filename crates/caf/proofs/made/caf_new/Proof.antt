@@ -1,5 +1,4 @@
 use borrow.Author.Tests.{eq-eqb, ne-eqb}
-use mathlib.Core.Path.{refl}
 use borrow.Author.Needs.{needs}
 use Rattle.caf.proofs.made.caf_new.Statement.{statement}
 use Rattle.caf.proofs.made.caf_new.Tie as tie

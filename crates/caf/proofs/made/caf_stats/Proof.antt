@@ -1,6 +1,6 @@
 use Rattle.byteorder.proofs.Laws.{splice-nil}
 use borrow.Author.Tests.{lt-ltb, le-ltb, not-true, not-false}
-use mathlib.Core.Path.{_≡_, sym, _∙_, ap}
+use mathlib.Core.Path.{sym, _∙_, ap}
 use Rattle.byteorder.specs.Splice.{splice}
 use Rattle.writer.specs.Record.{statsOf}
 use Rattle.writer.specs.declared.CAFWriterStats.{CAFWriterStats}

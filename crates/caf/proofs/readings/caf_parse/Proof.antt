@@ -1,7 +1,6 @@
-use Rattle.caf.specs.ReadingNumbers.{plainNumbers}
 use Rattle.reading.specs.Answers.{plainNumber}
 use borrow.Author.Tests.{lt-ltb, le-ltb}
-use mathlib.Core.Path.{_≡_, sym, ap, _∙_}
+use mathlib.Core.Path.{sym, ap, _∙_}
 use borrow.Author.Needs.{needs}
 use Rattle.caf.proofs.readings.caf_parse.Statement.{statement}
 use Rattle.caf.proofs.readings.caf_parse.Tie as tie

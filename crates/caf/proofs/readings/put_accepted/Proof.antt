@@ -2,7 +2,7 @@ use Rattle.caf.specs.FormatNumbers.{audioNumbers}
 use Rattle.byteorder.proofs.Laws.{more}
 use native.Mathlib.Omega.{arith}
 use mathlib.Core.List.{[], _∷_}
-use mathlib.Core.Path.{_≡_, refl}
+use mathlib.Core.Path.{refl}
 use borrow.Author.Needs.{needs}
 use Rattle.caf.proofs.readings.put_accepted.Statement.{statement}
 use Rattle.caf.proofs.readings.put_accepted.Tie as tie

@@ -4,7 +4,7 @@ use Rattle.byteorder.proofs.Laws.{more}
 use native.Mathlib.Omega.{arith}
 use Prim.Native.Nat.{suc}
 use mathlib.Core.List.{[], _∷_}
-use mathlib.Core.Path.{_≡_, refl, ap}
+use mathlib.Core.Path.{refl, ap}
 use borrow.Author.Needs.{needs}
 use Rattle.caf.proofs.readings.put_found.Statement.{statement}
 use Rattle.caf.proofs.readings.put_found.Tie as tie

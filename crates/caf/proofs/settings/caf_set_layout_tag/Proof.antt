@@ -3,7 +3,7 @@ use Rattle.caf.proofs.Records.{is-record}
 use Rattle.writer.specs.Settings.{tagCall}
 use Rattle.writer.specs.declared.CAFWriter.{CAFWriter}
 use borrow.Author.Tests.{not-true, not-false}
-use mathlib.Core.Path.{_≡_, sym, _∙_}
+use mathlib.Core.Path.{sym, _∙_}
 use borrow.Author.Needs.{needs}
 use Rattle.caf.proofs.settings.caf_set_layout_tag.Statement.{statement}
 use Rattle.caf.proofs.settings.caf_set_layout_tag.Tie as tie

@@ -4,7 +4,7 @@ use Rattle.caf.specs.FormatNumbers.{formatNumbers}
 use Rattle.caf.specs.RecordNumbers.{recordNumbers}
 use native.Mathlib.Omega.{arith}
 use lib.ListN.{length}
-use mathlib.Core.Path.{_≡_, refl, _∙_, ap}
+use mathlib.Core.Path.{_≡_, refl}
 use borrow.Author.Needs.{needs}
 use Rattle.caf.proofs.to_numbers.put_record.Statement.{statement}
 use Rattle.caf.proofs.to_numbers.put_record.Tie as tie

@@ -4,7 +4,7 @@ use Rattle.writer.specs.Finish.{finishCall}
 use Rattle.writer.specs.declared.CAFWriter.{CAFWriter}
 use borrow.Author.Tests.{not-true, not-false}
 use lib.ListN.{length}
-use mathlib.Core.Path.{_≡_, sym, _∙_}
+use mathlib.Core.Path.{sym, _∙_}
 use borrow.Author.Needs.{needs}
 use Rattle.caf.proofs.writing.caf_finish.Statement.{statement}
 use Rattle.caf.proofs.writing.caf_finish.Tie as tie

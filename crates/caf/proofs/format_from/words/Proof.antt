@@ -3,10 +3,10 @@ use native.Mathlib.Omega.{arith}
 use borrow.Author.Count.{below-more}
 use lib.ListN.{getD}
 use Prim.Native.Nat.{ℕ, _+_, _-_, _<_, _≤_, _^_}
-use mathlib.Core.Path.{_≡_, sym}
+use mathlib.Core.Path.{sym}
 use borrow.Author.Needs.{needs}
-use Rattle.caf.proofs.from_numbers.words.Statement.{statement}
-use Rattle.caf.proofs.from_numbers.words.Tie as tie
+use Rattle.caf.proofs.format_from.words.Statement.{statement}
+use Rattle.caf.proofs.format_from.words.Tie as tie
 
 abbrev Inv-loop : tie.InvT-loop
 Inv-loop numbers from n i₀ i = (i ≤ n) × ((k : ℕ) → k < i → getD numbers (from + k) 0 < 2 ^ 32)

@@ -2,8 +2,8 @@ use Rattle.caf.proofs.RatePatterns.{zero-by-zero}
 use Rattle.byteorder.proofs.RateAnswers.{rate-refused, rate-given}
 use mathlib.Core.Path.{sym, _∙_}
 use borrow.Author.Needs.{needs}
-use Rattle.caf.proofs.from_numbers.rate_of.Statement.{statement}
-use Rattle.caf.proofs.from_numbers.rate_of.Tie as tie
+use Rattle.caf.proofs.format_from.rate_of.Statement.{statement}
+use Rattle.caf.proofs.format_from.rate_of.Tie as tie
 
 rate-from-bits-requires : tie.Need-rate-from-bits-requires
 rate-from-bits-requires c κs = search needs

@@ -1,0 +1,78 @@
+use Rattle.caf.proofs.Feeders.{is-feeder, only-six}
+use Rattle.caf.specs.FeederNumbers.{phaseOf}
+use native.Mathlib.Omega.{arith}
+use Rattle.caf.proofs.feeder_from.phase_of.Statement.{statement}
+use Rattle.caf.proofs.feeder_from.phase_of.Tie as tie
+
+shared-slice-read-kind : tie.Need-shared-slice-read-kind
+shared-slice-read-kind c = let p = is-feeder _ (c .before .before .pre) .places in omega arith
+
+returns : tie.Need-returns
+unfolding phaseOf
+returns c = rw (c .if1 .taken)
+
+returns-2 : tie.Need-returns-2
+unfolding phaseOf
+returns-2 c = rw (c .if2 .taken)
+
+returns-3 : tie.Need-returns-3
+unfolding phaseOf
+returns-3 c = rw (c .if3 .taken)
+
+word-requires : tie.Need-word-requires
+word-requires c κs = let p = is-feeder _ (c .before .before .before .before .before .before .pre) in let l = p .places in (omega arith, p .number (c .if4 .taken))
+
+returns-4 : tie.Need-returns-4
+unfolding phaseOf
+returns-4 c = rw (c .before .if4 .taken, c .word .ensures)
+
+audio-of-requires : tie.Need-audio-of-requires
+audio-of-requires c κs = let p = is-feeder _ (c .before .before .before .before .before .before .pre) in let l = p .places in (omega arith, p .words)
+
+returns-5 : tie.Need-returns-5
+unfolding phaseOf
+returns-5 c = rw (c .if5 .taken, c .before .audio-of .ensures)
+
+shared-slice-read-t9 : tie.Need-shared-slice-read-t9
+shared-slice-read-t9 c = let p = is-feeder _ (c .before .before .before .before .before .before .before .before .before .before .pre) .places in omega arith
+
+returns-6 : tie.Need-returns-6
+unfolding phaseOf
+returns-6 c = rw (c .before .if6 .taken, c .before .before .before .audio-of .ensures)
+
+shared-slice-read-t12 : tie.Need-shared-slice-read-t12
+shared-slice-read-t12 c = let p = is-feeder _ (c .before .before .before .before .before .before .before .before .before .before .before .pre) .places in omega arith
+
+returns-7 : tie.Need-returns-7
+unfolding phaseOf
+returns-7 c = rw (c .before .if7 .taken, c .before .before .before .before .audio-of .ensures)
+
+shared-slice-read-t5 : tie.Need-shared-slice-read-t5
+shared-slice-read-t5 c = let p = is-feeder _ (c .before .before .before .before .before .before .before .before .before .before .before .pre) .places in omega arith
+
+shared-slice-read-t17 : tie.Need-shared-slice-read-t17
+shared-slice-read-t17 c = let p = is-feeder _ (c .before .before .before .before .before .before .before .before .before .before .before .before .pre) .places in omega arith
+
+returns-8 : tie.Need-returns-8
+unfolding phaseOf
+returns-8 c = let e = only-six _ (is-feeder _ (c .before .before .before .before .before .before .before .before .before .before .before .before .pre) .kind) (c .before .before .before .before .before .before .before .before .before .if1 .left) (c .before .before .before .before .before .before .before .before .if2 .left) (c .before .before .before .before .before .before .before .if3 .left) (c .before .before .before .before .before .before .if4 .left) (c .before .before .before .before .if5 .left) (c .before .before .before .if6 .left) (c .before .before .if7 .left) in rw (e, c .before .before .before .before .before .audio-of .ensures)
+
+pub phase-of-spec : {M : Type 1} → statement M
+phase-of-spec =
+    tie.close
+    (tie.spec
+    shared-slice-read-kind
+    returns
+    returns-2
+    returns-3
+    word-requires
+    returns-4
+    audio-of-requires
+    returns-5
+    shared-slice-read-t9
+    returns-6
+    shared-slice-read-t12
+    returns-7
+    shared-slice-read-t5
+    shared-slice-read-t17
+    returns-8)

@@ -1,0 +1,46 @@
+use Rattle.reading.specs.Answers.{strictNumber}
+use mathlib.Core.Path.{sym, ap}
+use borrow.Author.Needs.{needs}
+use Rattle.caf.proofs.readings.tell_strict.Statement.{statement}
+use Rattle.caf.proofs.readings.tell_strict.Tie as tie
+
+enum-known-answer : tie.Need-enum-known-answer
+enum-known-answer c = search needs
+
+slice-aggregate-put : tie.Need-slice-aggregate-put
+slice-aggregate-put c = search needs
+
+put-requires : tie.Need-put-requires
+put-requires c κs = search needs
+
+enum-known-answer-2 : tie.Need-enum-known-answer-2
+enum-known-answer-2 c = search needs
+
+put-accepted-requires : tie.Need-put-accepted-requires
+put-accepted-requires c κs = search needs
+
+same-length : tie.Need-same-length
+same-length c = search needs
+
+returns : tie.Need-returns
+returns c = (ap strictNumber (sym (c .before .before .before .before .before .before .answer .given .1)), rw (c .before .before .before .before .before .before .answer .given .1) (c .before .before .put .ensures))
+
+same-length-2 : tie.Need-same-length-2
+same-length-2 c = search needs
+
+returns-2 : tie.Need-returns-2
+returns-2 c = (ap strictNumber (sym (c .before .before .before .before .before .answer2 .given .1)), rw (c .before .before .before .before .before .answer2 .given .1) (c .before .before .put-accepted .ensures))
+
+pub tell-strict-spec : {M : Type 1} → statement M
+tell-strict-spec =
+    tie.close
+    (tie.spec
+    enum-known-answer
+    slice-aggregate-put
+    put-requires
+    enum-known-answer-2
+    put-accepted-requires
+    same-length
+    returns
+    same-length-2
+    returns-2)

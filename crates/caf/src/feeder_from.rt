@@ -1,0 +1,95 @@
+// The feeding record read from the array that a caller keeps.
+use crate::format_from::WORDS;
+use crate::format_from::audio_of;
+use crate::format_from::word;
+use crate::format_from::words;
+use byteorder::put::put_u64;
+use feeding::Feeder;
+use feeding::Phase;
+ghost use mathlib.Core.Path.{_≡_};
+ghost use mathlib.Core.Bool.{true};
+ghost use lib.ListN.{length};
+ghost use Rattle.caf.specs.FeederNumbers.{feederPlaces, phaseOf, heldIn, feederOf, isFeeder};
+
+pub(crate) const FEEDER_PLACES: usize = 17;
+
+// The greatest of the numbers that name a phase: that of a refusal.
+const LAST_PHASE: u64 = 7;
+
+const NUMBER: usize = 8;
+
+// Whether the array stands for a record.
+pub(crate) fn is_feeder(numbers: &[u64]) -> bool
+    ensures { λ b. ⌜ b ≡ isFeeder (now (numbers .entry)) ⌝ }
+{
+    if numbers.len() != FEEDER_PLACES {
+        return false;
+    }
+    if LAST_PHASE < numbers[0] {
+        return false;
+    }
+    if !words(numbers, 2, 6) {
+        return false;
+    }
+    if numbers[0] == LAST_PHASE {
+        return numbers[NUMBER] < WORDS;
+    }
+    true
+}
+
+fn phase_of(numbers: &[u64]) -> Phase
+    requires { ⌜ isFeeder (now numbers) ≡ true ⌝ }
+    ensures { λ phase. ⌜ phase ≡ phaseOf (now (numbers .entry)) ⌝ }
+{
+    let kind = numbers[0];
+    if kind == 0 {
+        return Phase::FileHeader;
+    }
+    if kind == 1 {
+        return Phase::FirstHeader;
+    }
+    if kind == 2 {
+        return Phase::Desc;
+    }
+    if kind == 7 {
+        return Phase::Refused(word(numbers, NUMBER));
+    }
+    let format = audio_of(numbers);
+    if kind == 3 {
+        return Phase::Header(format);
+    }
+    if kind == 4 {
+        return Phase::Skipping(format, numbers[NUMBER] as usize);
+    }
+    if kind == 5 {
+        return Phase::Edit(format, numbers[NUMBER] as usize);
+    }
+    Phase::InData(format, numbers[NUMBER] as usize, numbers[9] as usize)
+}
+
+fn held_of(numbers: &[u64]) -> [u8; 32]
+    requires { ⌜ length (now numbers) ≡ feederPlaces ⌝ }
+    ensures { λ held. ⌜ held ≡ heldIn (now (numbers .entry)) ⌝ }
+{
+    let mut held = [0u8; 32];
+    put_u64(&mut held, 0, numbers[13]);
+    put_u64(&mut held, 8, numbers[14]);
+    put_u64(&mut held, 16, numbers[15]);
+    put_u64(&mut held, 24, numbers[16]);
+    held
+}
+
+pub(crate) fn feeder_of(numbers: &[u64]) -> Feeder
+    requires { ⌜ isFeeder (now numbers) ≡ true ⌝ }
+    ensures { λ r. ⌜ r ≡ feederOf (now (numbers .entry)) ⌝ }
+{
+    let phase = phase_of(numbers);
+    let held = held_of(numbers);
+    Feeder {
+        phase: phase,
+        held: held,
+        count: numbers[10] as usize,
+        total: numbers[11] as usize,
+        chunks: numbers[12] as usize,
+    }
+}
