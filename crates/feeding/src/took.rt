@@ -114,22 +114,15 @@ pub(crate) fn took(r: Feeder, bytes: &[u8]) -> Feeder
     ensures { λ next. ⌜ next ≡ took r (now (bytes .entry)) ⌝ }
 {
     let phase = r.phase;
+    let total = r.total + bytes.len();
     match phase {
         Phase::FileHeader => fills(r, bytes),
         Phase::FirstHeader => fills(r, bytes),
         Phase::Desc => fills(r, bytes),
         Phase::Header(_) => fills(r, bytes),
-        Phase::Skipping(format, left) => {
-            moved(
-                r,
-                skipping(format, left - bytes.len()),
-                r.total + bytes.len(),
-            )
-        }
+        Phase::Skipping(format, left) => moved(r, skipping(format, left - bytes.len()), total),
         Phase::Edit(_, _) => fills(r, bytes),
-        Phase::InData(format, size, start) => {
-            moved(r, Phase::InData(format, size, start), r.total + bytes.len())
-        }
+        Phase::InData(format, size, start) => moved(r, Phase::InData(format, size, start), total),
         Phase::Refused(_) => r,
     }
 }
