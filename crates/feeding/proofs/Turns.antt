@@ -225,7 +225,7 @@ was-not : (bs : List ℕ) (r : Feeder) (x : Bool) → isRefused (r .phase) ≡ x
 was-not bs r true e g = ap (λ (y : Feeder). isRefused (y .phase)) (sym (refused-bytes bs r e)) ∙ g
 was-not bs r false e g = e
 
-counts-all : (bs : List ℕ) (r : Feeder) → isRefused (feedBytes r bs .phase) ≡ false → r .total + length bs ≤ fileMax → feedBytes r bs .total ≡ r .total + length bs
+pub counts-all : (bs : List ℕ) (r : Feeder) → isRefused (feedBytes r bs .phase) ≡ false → r .total + length bs ≤ fileMax → feedBytes r bs .total ≡ r .total + length bs
 counts-all [] r g l = omega arith
 counts-all (b ∷ bs) r g l =
     let x : isRefused (r .phase) ≡ false = was-not (b ∷ bs) r (isRefused (r .phase)) refl g in

@@ -1,15 +1,24 @@
-// Lists the CAF file on standard input: document 01's listing, or `refused` and the number.
-use answers::NO_ROOM;
+// Lists the CAF file on standard input: document 01's listing, or `refused` and the number. The file comes in blocks (document 02,
+// T-01), so that no length is too much and none takes more memory.
+use answers::DONE;
 use byteorder::RateBits;
 use byteorder::float::rate_to_bits;
+use feeding::Feeder;
+use feeding::end::end;
+use feeding::feed::feed;
+use feeding::feed::fresh;
 use format::AudioFormat;
+use libc::STDERR_FILENO;
 use libc::STDIN_FILENO;
 use reading::StrictAnswer;
 use reading::StrictInfo;
-use reading::strict::read_strict;
 
-// The longest file that is listed.
-const LONGEST: usize = 65_536;
+// What standard input brought.
+struct Input {
+    // no read failed
+    is_whole: bool,
+    feeder: Feeder,
+}
 
 fn refused(number: u32) {
     show::word(b"refused ");
@@ -76,21 +85,49 @@ fn accepted(len: usize, info: StrictInfo) {
     line(b"frames ", info.frames as u64);
 }
 
-fn list(file: &[u8]) {
-    let answer = read_strict(file);
+fn list(feeder: Feeder) {
+    let answer = end(feeder);
     match answer {
         StrictAnswer::Rejected(number, _) => refused(number),
-        StrictAnswer::Accepted(info, _) => accepted(file.len(), info),
+        StrictAnswer::Accepted(info, _) => accepted(feeder.total, info),
+    }
+}
+
+// Feeds block after block, up to the end or to the first refusal: no byte behind it changes the answer.
+// It ends since each block that is not refused brings the total nearer to the greatest length of a file.
+fn fed_input() -> Input {
+    let mut buffer = [0u8; 65_536];
+    let mut feeder = fresh();
+    loop {
+        let got = libc::read(STDIN_FILENO, &mut buffer);
+        if got < 0 {
+            return Input {
+                is_whole: false,
+                feeder: feeder,
+            };
+        }
+        let n = io::count(got, &buffer);
+        if n == 0 {
+            break;
+        }
+        let fed = feed(feeder, &buffer[..n]);
+        feeder = fed.feeder;
+        if fed.number != DONE {
+            break;
+        }
+    }
+    Input {
+        is_whole: true,
+        feeder: feeder,
     }
 }
 
 fn main() {
-    // one byte more than the longest file, to tell that there is more
-    let mut buffer = [0u8; 65_537];
-    let n = io::read_full(STDIN_FILENO, &mut buffer);
-    if LONGEST < n {
-        refused(NO_ROOM);
+    let input = fed_input();
+    if !input.is_whole {
+        // a listing of the part that came would be a wrong bill
+        io::write_all(STDERR_FILENO, b"list: standard input cannot be read\n");
         return;
     }
-    list(&buffer[..n]);
+    list(input.feeder);
 }
