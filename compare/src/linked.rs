@@ -42,6 +42,9 @@ unsafe extern "C" {
         count: usize,
     ) -> u32;
     fn caf_finish(record: *mut u64, record_len: usize, buf: *mut u8, buf_len: usize) -> u32;
+    fn caf_feed_begin(feeder: *mut u64, feeder_len: usize) -> u32;
+    fn caf_feed(feeder: *mut u64, feeder_len: usize, block: *const u8, block_len: usize) -> u32;
+    fn caf_feed_end(feeder: *const u64, feeder_len: usize, out: *mut u64, out_len: usize) -> u32;
 }
 
 const PLACES: usize = 13;
@@ -61,6 +64,29 @@ pub fn strict(file: &[u8]) -> (u32, [u64; PLACES]) {
 
 pub fn pack(samples: &[i32], little: bool, out: &mut [u8]) -> u32 {
     unsafe { caf_pack_24(samples.as_ptr(), samples.len(), little, out.as_mut_ptr(), out.len()) }
+}
+
+const FEEDER: usize = 17;
+
+/// A feeding record as a caller in C keeps it.
+pub struct Feeder([u64; FEEDER]);
+
+impl Feeder {
+    pub fn new() -> Self {
+        let mut feeder = [0; FEEDER];
+        assert_eq!(unsafe { caf_feed_begin(feeder.as_mut_ptr(), FEEDER) }, 0);
+        Feeder(feeder)
+    }
+
+    pub fn feed(&mut self, block: &[u8]) -> u32 {
+        unsafe { caf_feed(self.0.as_mut_ptr(), FEEDER, block.as_ptr(), block.len()) }
+    }
+
+    pub fn end(&self) -> (u32, [u64; PLACES]) {
+        let mut found = [0; PLACES];
+        let number = unsafe { caf_feed_end(self.0.as_ptr(), FEEDER, found.as_mut_ptr(), PLACES) };
+        (number, found)
+    }
 }
 
 const RECORD: usize = 82;

@@ -6,8 +6,10 @@
 #[path = "../linked.rs"]
 mod linked;
 
+use std::env;
+use std::fs::{self, File};
 use std::hint::black_box;
-use std::io::Cursor;
+use std::io::{Cursor, Read, Seek, SeekFrom};
 use std::mem::ManuallyDrop;
 use std::time::Instant;
 
@@ -15,7 +17,7 @@ use harness::answer::Side;
 use harness::files::{HEADS, chunk, format_body};
 use harness::known;
 use harness::oracle::Rust;
-use linked::Writer;
+use linked::{Feeder, Writer};
 use oracle::caf::{CAFWriter, ChannelLabel, Endianness, PCMDataType, parse_caf_file};
 
 const RUNS: usize = 11;
@@ -222,6 +224,79 @@ fn clip() {
     assert_eq!(a, b);
 }
 
+/// An open film with a hole for its payload: the system makes its zeros as they are read.
+fn long_film(length: usize) -> File {
+    let path = env::temp_dir().join(format!("caf-bench-{}", std::process::id()));
+    fs::write(&path, many_chunks(0)).expect("a folder for the film");
+    let film = File::options().read(true).write(true).open(&path).expect("the film");
+    // the name goes, and the film with it when it is closed
+    fs::remove_file(&path).expect("its name");
+    film.set_len(length as u64).expect("a file system with holes");
+    film
+}
+
+/// Reads the film from its start in blocks, and does the same with each.
+fn in_blocks(film: &mut File, block: &mut [u8], mut each: impl FnMut(&[u8])) {
+    film.seek(SeekFrom::Start(0)).expect("its start");
+    loop {
+        let n = film.read(block).expect("a block");
+        if n == 0 {
+            return;
+        }
+        each(&block[..n]);
+    }
+}
+
+fn stream(length: usize, size: usize) {
+    let [mut a, mut b] = [(); 2].map(|_| (long_film(length), vec![0xa5; size]));
+    let ours = || {
+        let mut feeder = Feeder::new();
+        in_blocks(&mut a.0, &mut a.1, |block| assert_eq!(feeder.feed(black_box(block)), 0));
+        let (number, found) = feeder.end();
+        assert_eq!((number, found[10]), (0, (length - HEADER) as u64));
+    };
+    let nothing = || {
+        in_blocks(&mut b.0, &mut b.1, |block| {
+            black_box(block);
+        })
+    };
+    race(
+        &format!("{} GiB read in blocks of {} KiB, a block", length >> 30, size >> 10),
+        length / size,
+        vec![("ours", Box::new(ours)), ("reading and doing nothing", Box::new(nothing))],
+    );
+}
+
+/// Blocks that are in memory: what a call costs for data, and for chunk headers.
+fn blocks() {
+    const TIMES: usize = 20_000;
+    for size in [4 << 10, 64 << 10, 1 << 20] {
+        let block = vec![0xa5; size];
+        let fed = || {
+            let mut feeder = Feeder::new();
+            assert_eq!(feeder.feed(&many_chunks(0)), 0);
+            for _ in 0..TIMES {
+                assert_eq!(feeder.feed(black_box(&block)), 0);
+            }
+        };
+        race(&format!("a block of {} KiB of data fed", size >> 10), TIMES, vec![("ours", Box::new(fed))]);
+    }
+    let file = many_chunks(4000);
+    let fed = || {
+        let mut feeder = Feeder::new();
+        assert_eq!(feeder.feed(black_box(&file)), 0);
+        black_box(feeder.end());
+    };
+    let strict = || {
+        black_box(linked::strict(black_box(&file)));
+    };
+    race(
+        "4000 chunks in one block, a chunk",
+        4000,
+        vec![("ours", Box::new(fed)), ("strict reading", Box::new(strict))],
+    );
+}
+
 fn main() {
     println!("medians of {RUNS} runs; buffers written before and not cleared between; ratio is ours to the other");
     let example = Rust.run(&known::example_script()).pop().expect("a file").file;
@@ -233,4 +308,6 @@ fn main() {
         data(size);
     }
     clip();
+    blocks();
+    stream(4 << 30, 64 << 10);
 }
