@@ -5,3 +5,5 @@ pub mod Records
 pub mod Puts
 pub mod Calls
 pub mod Feeders
+pub mod FeederTyped
+pub mod FedThrough

@@ -7,3 +7,4 @@ pub mod RecordCalls
 pub mod RecordMade
 pub mod FeederNumbers
 pub mod FeederCalls
+pub mod FeederClaims
