@@ -10,9 +10,6 @@ use lib.Dec.{eqb}
 use borrow.Author.Tests.{eq-eqb, ne-eqb, lt-ltb}
 use Rattle.answers.specs.Numbers.{badWriter, tooLong}
 use Rattle.byteorder.specs.Big.{bigAt, bigBytes}
-use Rattle.byteorder.specs.Rate.{rateOf, rateBits}
-use Rattle.byteorder.proofs.RateRoundTrip.{rate-back}
-use Rattle.format.specs.Desc.{Typed}
 use Rattle.format.specs.declared.AudioFormat.{AudioFormat}
 use Rattle.reading.specs.Claims.{Bytes}
 use Rattle.reading.proofs.SoundBytes.{back, together}
@@ -30,35 +27,10 @@ use Rattle.caf.specs.RecordNumbers.{isWord}
 use Rattle.caf.specs.FeederNumbers.{phaseOf, feederNumbers, feederOf, isFeeder}
 use Rattle.caf.specs.FeederCalls.{feedOn, feederAfter, endOn}
 use Rattle.caf.specs.FeederClaims.{feedsOn, AllBytes, FedThroughC}
+use Rattle.caf.proofs.FormatLaws.{again, format-back, words}
 use Rattle.caf.proofs.FeederTyped.{TypedPhase, TypedFeeder, bytes-typed}
 
--- a format comes back from its numbers
-abbrev again : AudioFormat → AudioFormat
-again f =
-    record {
-      «sample_rate» = rateOf (rateBits (f .«sample_rate»));
-      «format_id» = f .«format_id»;
-      «format_flags» = f .«format_flags»;
-      «bytes_per_packet» = f .«bytes_per_packet»;
-      «frames_per_packet» = f .«frames_per_packet»;
-      «channels_per_frame» = f .«channels_per_frame»;
-      «bits_per_channel» = f .«bits_per_channel»;
-    }
-
-format-back : (f : AudioFormat) → Typed f → again f ≡ f
-format-back f t =
-    let e = rate-back (f .«sample_rate») (t .rate) in
-    λ i. record {
-      «sample_rate» = e i;
-      «format_id» = f .«format_id»;
-      «format_flags» = f .«format_flags»;
-      «bytes_per_packet» = f .«bytes_per_packet»;
-      «frames_per_packet» = f .«frames_per_packet»;
-      «channels_per_frame» = f .«channels_per_frame»;
-      «bits_per_channel» = f .«bits_per_channel»;
-    }
-
--- and so do 32 bytes
+-- 32 bytes come back from four numbers
 abbrev eights : List ℕ → List ℕ
 eights h = bigBytes 8 (bigAt 8 h 0) ++ bigBytes 8 (bigAt 8 h 8) ++ bigBytes 8 (bigAt 8 h 16) ++ bigBytes 8 (bigAt 8 h 24)
 
@@ -93,12 +65,6 @@ module _ (h : List ℕ) (n t k : ℕ) (l : length h ≡ 32) (b : Bytes h) where
   at-back (InData f size start) p =
       with-phase (InData (again f) size start) (InData f size start) (ap (λ (x : AudioFormat). InData x size start) (format-back f p))
   at-back (Refused number) p = with-phase (Refused number) (Refused number) refl
-
-  words : (f : AudioFormat) → Typed f
-      → (isWord (f .«format_id») ≡ true) × (isWord (f .«format_flags») ≡ true) × (isWord (f .«bytes_per_packet») ≡ true)
-      × (isWord (f .«frames_per_packet») ≡ true) × (isWord (f .«channels_per_frame») ≡ true) × (isWord (f .«bits_per_channel») ≡ true)
-  words f y =
-      (lt-ltb _ _ (y .id), lt-ltb _ _ (y .flags), lt-ltb _ _ (y .packet), lt-ltb _ _ (y .frames), lt-ltb _ _ (y .channels), lt-ltb _ _ (y .bits))
 
   at-stands : (phase : Phase) → TypedPhase phase → isFeeder (feederNumbers (at phase)) ≡ true
   unfolding feederNumbers isFeeder

@@ -7,3 +7,4 @@ pub mod Calls
 pub mod Feeders
 pub mod FeederTyped
 pub mod FedThrough
+pub mod RecordBack

@@ -8,3 +8,4 @@ pub mod RecordMade
 pub mod FeederNumbers
 pub mod FeederCalls
 pub mod FeederClaims
+pub mod RecordClaims
