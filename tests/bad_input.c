@@ -6,6 +6,7 @@
 #include <string.h>
 
 #include "caf.h"
+#include "random.h"
 
 static unsigned long checks;
 
@@ -17,16 +18,6 @@ static unsigned long checks;
             exit(1);                                                               \
         }                                                                          \
     } while (0)
-
-/* Numbers that look random and are the same in every run. */
-static uint64_t state = 20261115;
-
-static uint64_t next(void) {
-    state ^= state << 13;
-    state ^= state >> 7;
-    state ^= state << 17;
-    return state;
-}
 
 enum { ROOM = 256 };
 

@@ -9,22 +9,13 @@
 #include <unistd.h>
 
 #include "caf.h"
+#include "random.h"
 
 enum { BEHIND = 2, RANDOM_RUNS = 8 };
 
 static const uint64_t UNTOUCHED = 0xA5A5A5A5A5A5A5A5;
 
 static unsigned long runs;
-
-/* Numbers that look random and are the same in every run. */
-static uint64_t state = 20261115;
-
-static uint64_t next(void) {
-    state ^= state << 13;
-    state ^= state >> 7;
-    state ^= state << 17;
-    return state;
-}
 
 /* Mostly short, sometimes none, sometimes long. */
 static size_t random_length(void) {
