@@ -174,8 +174,11 @@ impl Ours {
             finished: pipe.number(1) == 1,
             file: pipe.list(),
         };
-        if step.number == DONE {
-            past.after(call);
+        match (step.number, call) {
+            (DONE, _) => past.after(call),
+            // a refused resume leaves a fresh writer
+            (_, Call::Resume | Call::ResumeFrom(_)) => *past = Past::default(),
+            _ => {}
         }
         *file = step.file.clone();
         step
