@@ -109,15 +109,15 @@ uint32_t caf_read_strict(const uint8_t *file, size_t file_len, uint64_t *out, si
  * named for tests. An array of another length, or one whose numbers no calls make, is an unsound
  * record: CAF_BAD_WRITER, and the array keeps its contents. */
 enum caf_feeder_place {
-    CAF_FEEDER_PHASE = 0,    /* 0 to 7: what is waited for; 7 after a refusal */
-    CAF_FEEDER_RATE = 1,     /* this and the six behind it: the format, once it was read, as in caf_strict_place */
+    CAF_FEEDER_PHASE = 0,     /* 0 to 7: what is waited for; 7 after a refusal */
+    CAF_FEEDER_RATE = 1,      /* the format, once it was read, in the order of caf_strict_place */
     CAF_FEEDER_FORMAT_ID = 2, /* this and the five behind it: 32 bits */
-    CAF_FEEDER_NUMBER = 8,   /* bytes of a body to come, the data chunk's size field, or the refusal */
-    CAF_FEEDER_START = 9,    /* where the data start */
-    CAF_FEEDER_COUNT = 10,   /* bytes held of a header or description that a block cut in two */
-    CAF_FEEDER_TOTAL = 11,   /* bytes fed */
-    CAF_FEEDER_CHUNKS = 12,  /* whole chunk headers met */
-    CAF_FEEDER_HELD = 13,    /* those bytes, eight in a number */
+    CAF_FEEDER_NUMBER = 8,    /* bytes of a body to come, the data chunk's size field, or the refusal */
+    CAF_FEEDER_START = 9,     /* where the data start */
+    CAF_FEEDER_COUNT = 10,    /* bytes held of a header or description that a block cut in two */
+    CAF_FEEDER_TOTAL = 11,    /* bytes fed */
+    CAF_FEEDER_CHUNKS = 12,   /* whole chunk headers met */
+    CAF_FEEDER_HELD = 13,     /* the bytes held, eight in a number */
     CAF_FEEDER = 17
 };
 
@@ -131,8 +131,9 @@ uint32_t caf_feed_begin(uint64_t *feeder, size_t feeder_len);
 uint32_t caf_feed(uint64_t *feeder, size_t feeder_len, const uint8_t *block, size_t block_len);
 
 /* The answer for all that was fed; fills out as caf_read_strict does. The record is only read, so
- * that more may be fed afterwards, and a second end answers the same. With fewer than
- * CAF_STRICT_PLACES places: CAF_NO_ROOM, and writes nothing. */
+ * that more may be fed afterwards, and a second end answers the same. An unsound record:
+ * CAF_BAD_WRITER, and a count of 0. With fewer than CAF_STRICT_PLACES places: CAF_NO_ROOM, and writes
+ * nothing. */
 uint32_t caf_feed_end(const uint64_t *feeder, size_t feeder_len, uint64_t *out, size_t out_len);
 
 /* ---- layouts */
