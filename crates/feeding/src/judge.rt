@@ -28,8 +28,9 @@ pub(crate) fn skipping(format: AudioFormat, n: usize) -> Phase
     Phase::Skipping(format, n)
 }
 
-fn judged_file(piece: &[u8], total: usize) -> Phase
-    ensures { λ r. ⌜ r ≡ judged (now (piece .entry)) total feeding·FileHeader ⌝ }
+// These three don't look at the position, so that it may be any: 0.
+fn judged_file(piece: &[u8]) -> Phase
+    ensures { λ r. ⌜ r ≡ judged (now (piece .entry)) 0 feeding·FileHeader ⌝ }
 {
     if !stands_at(piece, 0, *b"caff") {
         return Phase::Refused(NOT_CAF);
@@ -41,8 +42,8 @@ fn judged_file(piece: &[u8], total: usize) -> Phase
     Phase::FirstHeader
 }
 
-fn judged_first(piece: &[u8], total: usize) -> Phase
-    ensures { λ r. ⌜ r ≡ judged (now (piece .entry)) total feeding·FirstHeader ⌝ }
+fn judged_first(piece: &[u8]) -> Phase
+    ensures { λ r. ⌜ r ≡ judged (now (piece .entry)) 0 feeding·FirstHeader ⌝ }
 {
     if !stands_at(piece, 0, *b"desc") {
         return Phase::Refused(BAD_DESC);
@@ -53,8 +54,8 @@ fn judged_first(piece: &[u8], total: usize) -> Phase
     Phase::Desc
 }
 
-fn judged_desc(piece: &[u8], total: usize) -> Phase
-    ensures { λ r. ⌜ r ≡ judged (now (piece .entry)) total feeding·Desc ⌝ }
+fn judged_desc(piece: &[u8]) -> Phase
+    ensures { λ r. ⌜ r ≡ judged (now (piece .entry)) 0 feeding·Desc ⌝ }
 {
     let read = read_desc(piece);
     match read {
@@ -87,9 +88,9 @@ pub(crate) fn judged(piece: &[u8], total: usize, phase: Phase) -> Phase
     ensures { λ r. ⌜ r ≡ judged (now (piece .entry)) total phase ⌝ }
 {
     match phase {
-        Phase::FileHeader => judged_file(piece, total),
-        Phase::FirstHeader => judged_first(piece, total),
-        Phase::Desc => judged_desc(piece, total),
+        Phase::FileHeader => judged_file(piece),
+        Phase::FirstHeader => judged_first(piece),
+        Phase::Desc => judged_desc(piece),
         Phase::Header(format) => judged_header(piece, format),
         Phase::Skipping(format, left) => Phase::Skipping(format, left),
         Phase::Edit(format, size) => Phase::InData(format, size, total),

@@ -78,8 +78,9 @@ fn headers_before(n: usize, bytes: usize, k: usize, format: AudioFormat) -> bool
     met_within(k, bytes - n)
 }
 
-fn skipping_sound(n: usize, total: usize, k: usize, format: AudioFormat, left: usize) -> bool
-    ensures { λ b. ⌜ b ≡ phaseSound n total k (feeding·Skipping format left) ⌝ }
+// A phase that collects no piece holds no bytes of one: 0.
+fn skipping_sound(total: usize, k: usize, format: AudioFormat, left: usize) -> bool
+    ensures { λ b. ⌜ b ≡ phaseSound 0 total k (feeding·Skipping format left) ⌝ }
 {
     if !headers_before(0, total, k, format) {
         return false;
@@ -99,15 +100,8 @@ fn edit_sound(n: usize, total: usize, k: usize, format: AudioFormat, size: usize
     !is_bad_data_size(size as u64)
 }
 
-fn data_sound(
-    n: usize,
-    total: usize,
-    k: usize,
-    format: AudioFormat,
-    size: usize,
-    start: usize,
-) -> bool
-    ensures { λ b. ⌜ b ≡ phaseSound n total k (feeding·InData format size start) ⌝ }
+fn data_sound(total: usize, k: usize, format: AudioFormat, size: usize, start: usize) -> bool
+    ensures { λ b. ⌜ b ≡ phaseSound 0 total k (feeding·InData format size start) ⌝ }
 {
     if total < start {
         return false;
@@ -118,8 +112,8 @@ fn data_sound(
     !is_bad_data_size(size as u64)
 }
 
-fn refused_sound(n: usize, total: usize, k: usize, number: u32) -> bool
-    ensures { λ b. ⌜ b ≡ phaseSound n total k (feeding·Refused number) ⌝ }
+fn refused_sound(total: usize, k: usize, number: u32) -> bool
+    ensures { λ b. ⌜ b ≡ phaseSound 0 total k (feeding·Refused number) ⌝ }
 {
     if total / CHUNK_HEADER < k {
         return false;
@@ -154,10 +148,10 @@ fn phase_sound(n: usize, total: usize, k: usize, phase: Phase) -> bool
             k == 1
         }
         Phase::Header(format) => headers_before(n, total, k, format),
-        Phase::Skipping(format, left) => skipping_sound(n, total, k, format, left),
+        Phase::Skipping(format, left) => skipping_sound(total, k, format, left),
         Phase::Edit(format, size) => edit_sound(n, total, k, format, size),
-        Phase::InData(format, size, start) => data_sound(n, total, k, format, size, start),
-        Phase::Refused(number) => refused_sound(n, total, k, number),
+        Phase::InData(format, size, start) => data_sound(total, k, format, size, start),
+        Phase::Refused(number) => refused_sound(total, k, number),
     }
 }
 
