@@ -13,10 +13,12 @@ ghost use Rattle.caf.specs.FeederNumbers.{feederPlaces, phaseOf, heldIn,
 
 pub(crate) const FEEDER_PLACES: usize = 17;
 
-// The greatest of the numbers that name a phase: that of a refusal.
-const LAST_PHASE: u64 = 7;
+// The phase of a record that met a refusal. No phase has a greater number.
+const REFUSED: u64 = 7;
 
 const NUMBER: usize = 8;
+
+const START: usize = 9;
 
 // Whether the array stands for a record.
 pub(crate) fn is_feeder(numbers: &[u64]) -> bool
@@ -25,13 +27,13 @@ pub(crate) fn is_feeder(numbers: &[u64]) -> bool
     if numbers.len() != FEEDER_PLACES {
         return false;
     }
-    if LAST_PHASE < numbers[0] {
+    if REFUSED < numbers[0] {
         return false;
     }
     if !words(numbers, 2, 6) {
         return false;
     }
-    if numbers[0] == LAST_PHASE {
+    if numbers[0] == REFUSED {
         return numbers[NUMBER] < WORDS;
     }
     true
@@ -51,7 +53,7 @@ fn phase_of(numbers: &[u64]) -> Phase
     if kind == 2 {
         return Phase::Desc;
     }
-    if kind == 7 {
+    if kind == REFUSED {
         return Phase::Refused(word(numbers, NUMBER));
     }
     let format = audio_of(numbers);
@@ -64,7 +66,7 @@ fn phase_of(numbers: &[u64]) -> Phase
     if kind == 5 {
         return Phase::Edit(format, numbers[NUMBER] as usize);
     }
-    Phase::InData(format, numbers[NUMBER] as usize, numbers[9] as usize)
+    Phase::InData(format, numbers[NUMBER] as usize, numbers[START] as usize)
 }
 
 fn held_of(numbers: &[u64]) -> [u8; 32]

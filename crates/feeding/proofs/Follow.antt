@@ -25,8 +25,8 @@ use Rattle.reading.specs.declared.StrictAnswer.{StrictAnswer}
 use Rattle.reading.specs.declared.StrictAnswer.the-variants.{Rejected}
 use Rattle.reading.proofs.Choice.{either}
 use Rattle.reading.proofs.Walk.{walk-on}
-use Rattle.feeding.specs.Record.{isByBytes}
-use Rattle.feeding.specs.Feed.{skipping, judgedHeader, judged, collected, took, isRefused}
+use Rattle.feeding.specs.Record.{pieceSize, isByBytes}
+use Rattle.feeding.specs.Feed.{skipping, judgedHeader, judged, counted, collected, fills, took, isRefused}
 use Rattle.feeding.specs.Turns.{wanted}
 use Rattle.feeding.specs.declared.Phase.{Phase}
 use Rattle.feeding.specs.declared.Phase.the-variants.{FileHeader, FirstHeader, Desc, Header, Skipping, Edit, InData, Refused}
@@ -233,106 +233,75 @@ module _ (s : List ℕ) where
       abbrev Then : Phase → Type 0
       Then phase = Follows s (i + length cs) (took (record { phase = phase; held = h; count = n; total = t; chunks = k }) cs)
 
-      file-on : n + length cs ≤ 8 → AtFile s i h n k → Then FileHeader
-      unfolding took collected
-      file-on fit a =
+      -- bytes of a piece make it whole, or it goes on
+      piece-on : (phase : Phase) → n + length cs ≤ pieceSize phase → pieceSize phase ≤ 32
+          → (n + length cs ≡ pieceSize phase → At s (i + length cs) piece 0 (counted k phase) (judged piece (t + length cs) phase))
+          → (n + length cs < pieceSize phase → At s (i + length cs) piece (n + length cs) k phase)
+          → Follows s (i + length cs) (fills (record { phase = phase; held = h; count = n; total = t; chunks = k }) cs)
+      unfolding collected
+      piece-on phase fit small whole more =
           let l = piece-room (omega arith) in
+          either (λ (x : Feeder). Follows s (i + length cs) x) (eqb (n + length cs) (pieceSize phase))
+          (λ x. record { room = l; total = λ _. omega arith; within = on; at = whole (eqb-true (n + length cs) (pieceSize phase) x) })
+          (λ x. let z = eqb-false (n + length cs) (pieceSize phase) x in
+          record { room = l; total = λ _. omega arith; within = on; at = more (omega arith) })
+
+      file-on : n + length cs ≤ 8 → AtFile s i h n k → Then FileHeader
+      unfolding took
+      file-on fit a =
           let o = piece-holds 0 (a .holds) (omega arith) (omega (arith, a .place)) in
-          either (λ (x : Feeder). Follows s (i + length cs) x) (eqb (n + length cs) 8)
-          (λ x. let z = eqb-true (n + length cs) 8 x in
-          record { room = l; total = λ _. omega arith; within = on; at = rw (a .count) (file-whole (i + length cs) on piece (t + length cs) (holds-as o z) (omega (arith, a .place))) })
-          (λ x. let z = eqb-false (n + length cs) 8 x in
-          record {
-            room = l;
-            total = λ _. omega arith;
-            within = on;
-            at = record { holds = o; place = omega (arith, a .place); few = omega (arith, a .few); count = a .count };
-          })
+          piece-on FileHeader fit (omega arith)
+          (λ z. rw (a .count) (file-whole (i + length cs) on piece (t + length cs) (holds-as o z) (omega (arith, a .place))))
+          (λ z. record { holds = o; place = omega (arith, a .place); few = z; count = a .count })
 
       first-on : n + length cs ≤ 12 → AtFirst s i h n k → Then FirstHeader
-      unfolding took collected
+      unfolding took
       first-on fit a =
-          let l = piece-room (omega arith) in
           let o = piece-holds 8 (a .holds) (omega arith) (a .place) in
-          either (λ (x : Feeder). Follows s (i + length cs) x) (eqb (n + length cs) 12)
-          (λ x. let z = eqb-true (n + length cs) 12 x in
-          record { room = l; total = λ _. omega arith; within = on; at = rw (a .count) (first-whole (i + length cs) on piece (t + length cs) (holds-as o z) (omega (arith, a .place)) (a .rest)) })
-          (λ x. let z = eqb-false (n + length cs) 12 x in
-          record {
-            room = l;
-            total = λ _. omega arith;
-            within = on;
-            at = record { holds = o; place = omega (arith, a .place); few = omega (arith, a .few); count = a .count; rest = a .rest };
-          })
+          piece-on FirstHeader fit (omega arith)
+          (λ z. rw (a .count) (first-whole (i + length cs) on piece (t + length cs) (holds-as o z) (omega (arith, a .place)) (a .rest)))
+          (λ z. record { holds = o; place = omega (arith, a .place); few = z; count = a .count; rest = a .rest })
 
       desc-on : n + length cs ≤ 32 → AtDesc s i h n k → Then Desc
-      unfolding took collected
+      unfolding took
       desc-on fit a =
-          let l = piece-room (omega arith) in
           let o = piece-holds 20 (a .holds) (omega arith) (a .place) in
-          either (λ (x : Feeder). Follows s (i + length cs) x) (eqb (n + length cs) 32)
-          (λ x. let z = eqb-true (n + length cs) 32 x in
-          record { room = l; total = λ _. omega arith; within = on; at = rw (a .count) (desc-whole (i + length cs) on piece (t + length cs) (holds-as o z) (omega (arith, a .place)) (a .rest)) })
-          (λ x. let z = eqb-false (n + length cs) 32 x in
-          record {
-            room = l;
-            total = λ _. omega arith;
-            within = on;
-            at = record { holds = o; place = omega (arith, a .place); few = omega (arith, a .few); count = a .count; rest = a .rest };
-          })
+          piece-on Desc fit (omega arith)
+          (λ z. rw (a .count) (desc-whole (i + length cs) on piece (t + length cs) (holds-as o z) (omega (arith, a .place)) (a .rest)))
+          (λ z. record { holds = o; place = omega (arith, a .place); few = z; count = a .count; rest = a .rest })
 
       header-on : (f : AudioFormat) → n + length cs ≤ 12 → AtHeader s i h n k f → Then (Header f)
-      unfolding took collected
+      unfolding took
       header-on f fit a =
-          let l = piece-room (omega arith) in
           let o = piece-holds (a .p) (a .holds) (omega arith) (a .place) in
-          either (λ (x : Feeder). Follows s (i + length cs) x) (eqb (n + length cs) 12)
-          (λ x. let z = eqb-true (n + length cs) 12 x in
-          record { room = l; total = λ _. omega arith; within = on; at = header-whole (i + length cs) on piece (t + length cs) (a .p) k f (holds-as o z) (omega (arith, a .place)) (a .rest) })
-          (λ x. let z = eqb-false (n + length cs) 12 x in
-          record {
-            room = l;
-            total = λ _. omega arith;
-            within = on;
-            at = record { p = a .p; holds = o; place = omega (arith, a .place); few = omega (arith, a .few); rest = a .rest };
-          })
+          piece-on (Header f) fit (omega arith)
+          (λ z. header-whole (i + length cs) on piece (t + length cs) (a .p) k f (holds-as o z) (omega (arith, a .place)) (a .rest))
+          (λ z. record { p = a .p; holds = o; place = omega (arith, a .place); few = z; rest = a .rest })
 
       edit-on : (f : AudioFormat) (size : ℕ) → n + length cs ≤ 4 → AtEdit s i h n k f size → Then (Edit f size)
-      unfolding took collected judged
+      unfolding took judged
       edit-on f size fit a =
           let l = piece-room (omega arith) in
-          either (λ (x : Feeder). Follows s (i + length cs) x) (eqb (n + length cs) 4)
-          (λ x. let z = eqb-true (n + length cs) 4 x in
-          let w : ltb (left s (bodyAt (a .p))) editSize ≡ false = le-ltb (left s (bodyAt (a .p))) editSize (omega (arith, a .place, on)) in
+          piece-on (Edit f size) fit (omega arith)
+          (λ z. let w : ltb (left s (bodyAt (a .p))) editSize ≡ false = le-ltb (left s (bodyAt (a .p))) editSize (omega (arith, a .place, on)) in
           record {
-            room = l;
-            total = λ _. omega arith;
-            within = on;
-            at = record {
-              p = a .p;
-              before = a .before;
-              place = omega (arith, a .place);
-              past = omega arith;
-              count = a .count;
-              is = a .is;
-              rest = a .rest ∙ rw w;
-            };
+            p = a .p;
+            before = a .before;
+            place = omega (arith, a .place);
+            past = omega arith;
+            count = a .count;
+            is = a .is;
+            rest = a .rest ∙ rw w;
           })
-          (λ x. let z = eqb-false (n + length cs) 4 x in
-          record {
-            room = l;
-            total = λ _. omega arith;
-            within = on;
-            at = record {
-              p = a .p;
-              before = a .before;
-              place = omega (arith, a .place);
-              room = omega arith;
-              few = omega (arith, a .few);
-              count = a .count;
-              is = a .is;
-              rest = a .rest;
-            };
+          (λ z. record {
+            p = a .p;
+            before = a .before;
+            place = omega (arith, a .place);
+            room = omega arith;
+            few = z;
+            count = a .count;
+            is = a .is;
+            rest = a .rest;
           })
 
       skip-on : (f : AudioFormat) (m : ℕ) → length cs ≤ m → AtSkip s i n k f m → Then (Skipping f m)

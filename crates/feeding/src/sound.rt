@@ -47,7 +47,7 @@ fn met_within(k: usize, n: usize) -> bool
     k - 1 <= (n - BEHIND_FIRST) / CHUNK_HEADER
 }
 
-pub(crate) fn is_by_bytes(number: u32) -> bool
+fn is_by_bytes(number: u32) -> bool
     ensures { λ b. ⌜ b ≡ isByBytes number ⌝ }
 {
     if number == NOT_CAF {
