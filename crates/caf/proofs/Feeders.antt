@@ -2,10 +2,10 @@
 use mathlib.Core.Path.{_≡_, refl, sym, _∙_, ap}
 use mathlib.Core.Bool.{true, false, cond}
 use mathlib.Core.List.{List, [], _∷_, _++_}
-use Prim.Native.Nat.{ℕ, _+_, _<_, _≤_, _^_}
+use Prim.Native.Nat.{ℕ, _<_, _≤_, _^_}
 use native.Mathlib.Omega.{arith}
 use lib.Dec.{leb, eqb}
-use lib.ListN.{length, getD, take, drop, length-append}
+use lib.ListN.{length, getD, take, drop}
 use borrow.Author.Tests.{eqb-true, leb-true, ltb-true, eq-eqb, ne-eqb}
 use Rattle.answers.specs.Numbers.{badWriter}
 use Rattle.byteorder.specs.Big.{bigAt, bigBytes}
@@ -17,10 +17,10 @@ use Rattle.feeding.specs.declared.Phase.{Phase}
 use Rattle.feeding.specs.declared.Phase.the-variants.{FileHeader, FirstHeader, Desc, Header, Skipping, Edit, InData, Refused}
 use Rattle.feeding.specs.declared.Feeder.{Feeder}
 use Rattle.feeding.specs.declared.Fed.{Fed}
+use Rattle.reading.proofs.Choice.{both}
 use Rattle.caf.specs.RecordNumbers.{at, isWord, allWords}
 use Rattle.caf.specs.FeederNumbers.{feederPlaces, phaseKind, phaseFormat, phaseNumber, phaseStart, feederNumbers, feederOf, isFeeder}
 use Rattle.caf.specs.FeederCalls.{feedOn, feederAfter, FeedCall}
-use Rattle.caf.proofs.Words.{both}
 use Rattle.caf.proofs.Puts.{whole}
 
 -- what is known of an array that stands for a record
@@ -96,19 +96,8 @@ four-eights d m n o p {a = a} {b = b} {c = c} {e = e} l pa pb pc pe =
     (more d 0 16 (bigBytes 8 m ++ bigBytes 8 n) (bigBytes 8 o) (more d 0 8 (bigBytes 8 m) (bigBytes 8 n) sa sb refl (omega arith)) sc refl (omega arith)) se refl (omega arith)
     ∙ whole d (bigBytes 8 m ++ bigBytes 8 n ++ bigBytes 8 o ++ bigBytes 8 p) (sym l)
 
-format-long : (phase : Phase) (rest : List ℕ) → length (phaseFormat phase ++ rest) ≡ 7 + length rest
-format-long FileHeader rest = omega arith
-format-long FirstHeader rest = omega arith
-format-long Desc rest = omega arith
-format-long (Header f) rest = omega arith
-format-long (Skipping f left) rest = omega arith
-format-long (Edit f size) rest = omega arith
-format-long (InData f size start) rest = omega arith
-format-long (Refused number) rest = omega arith
-
 feeder-long : (r : Feeder) → length (feederNumbers r) ≡ feederPlaces
-unfolding feederNumbers
-feeder-long r = rw (length-append, format-long (r .phase))
+feeder-long r = ap length (sym (feeder-is r _ _ _ _ _ _ _ _ refl refl refl refl refl refl refl refl))
 
 -- a record put over all places of the array
 pub kept-whole : (d ns : List ℕ) (r : Feeder) {after : List ℕ} → length d ≡ feederPlaces → ns ≡ feederNumbers r → after ≡ splice d 0 ns → after ≡ feederNumbers r

@@ -1,6 +1,6 @@
 -- The writer record comes back from its numbers, place by place.
 use mathlib.Core.Path.{_≡_, refl, sym, _∙_, ap}
-use mathlib.Core.Bool.{Bool, true, false, cond, _&&_}
+use mathlib.Core.Bool.{Bool, true, false, cond}
 use mathlib.Core.List.{List, [], _∷_, _++_}
 use Prim.Native.Nat.{ℕ, _+_, _^_}
 use native.Mathlib.Omega.{arith}
@@ -15,6 +15,7 @@ use Rattle.format.specs.declared.Endianness.the-variants.{BigEndian, LittleEndi
 use Rattle.layout.specs.declared.ChannelLayout.{ChannelLayout}
 use Rattle.layout.specs.declared.ChannelLayout.the-variants.{NoLayout, Tagged, Described}
 use Rattle.writer.specs.declared.CAFWriter.{CAFWriter}
+use Rattle.feeding.proofs.Soundness.{join}
 use Rattle.caf.specs.FormatNumbers.{flagNumber, formatNumbers, orderNumber}
 use Rattle.caf.specs.RecordNumbers.{at, maybeOf, labelsIn, orderOf, layoutKind, layoutTag, layoutOf, isFlag, isWord, allWords, formatFits, layoutFits, recordNumbers, recordOf, isRecord}
 use Rattle.caf.specs.RecordClaims.{TypedFormat, TypedLayout, TypedWriter, RecordBack}
@@ -40,9 +41,6 @@ layout-back : (l : ChannelLayout) → layoutOf (layoutKind l) (layoutTag l) ≡ 
 layout-back NoLayout = refl
 layout-back (Tagged tag) = refl
 layout-back Described = refl
-
-join : {a b : Bool} → a ≡ true → b ≡ true → a && b ≡ true
-join x y = rw (x, y)
 
 -- the record's numbers: twelve, the labels, and six
 module _ (e : Endianness) (l : ChannelLayout) (count : ℕ) (labels tail : List ℕ) (long : length labels ≡ 64) where

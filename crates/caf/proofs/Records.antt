@@ -6,8 +6,8 @@ use Prim.Native.Nat.{ℕ, _<_}
 use lib.Dec.{eqb}
 use lib.ListN.{length}
 use borrow.Author.Tests.{eqb-true, ltb-true}
+use Rattle.reading.proofs.Choice.{both}
 use Rattle.caf.specs.RecordNumbers.{recordPlaces, at, isFlag, allWords, labelsIn, formatFits, layoutFits, isRecord}
-use Rattle.caf.proofs.Words.{both}
 
 pub record IsRecord (ns : List ℕ) : Type 0 where
   pub places : length ns ≡ recordPlaces

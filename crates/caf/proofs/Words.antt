@@ -9,11 +9,8 @@ use lib.ListN.{length, getD, set, take, drop, length-take, length-drop}
 use lib.Seq.{getD-take, getD-drop, paste-suc}
 use native.Mathlib.Nat.{zero-add}
 use borrow.Author.Tests.{lt-ltb, le-ltb, ltb-true, ne-eqb}
+use Rattle.reading.proofs.Choice.{both}
 use Rattle.caf.specs.RecordNumbers.{at, isWord, allWords, formatFits}
-
-pub both : (a b : Bool) → a && b ≡ true → (a ≡ true) × (b ≡ true)
-both true b e = (refl, e)
-both false b e = (e, cc)
 
 words-at : (xs : List ℕ) → allWords xs ≡ true → (k : ℕ) → k < length xs → getD xs k 0 < 2 ^ 32
 words-at [] e k h = absurd (let z : ⊥ = omega arith in z)

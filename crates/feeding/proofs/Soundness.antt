@@ -20,7 +20,8 @@ use Rattle.feeding.specs.declared.Phase.{Phase}
 use Rattle.feeding.specs.declared.Phase.the-variants.{FileHeader, FirstHeader, Desc, Header, Skipping, Edit, InData, Refused}
 use Rattle.feeding.specs.declared.Feeder.{Feeder}
 
-join : {a b : Bool} → a ≡ true → b ≡ true → a && b ≡ true
+-- two tests that hold each hold together
+pub join : {a b : Bool} → a ≡ true → b ≡ true → a && b ≡ true
 join x y = rw (x, y)
 
 not-is : {b : Bool} → b ≡ false → not b ≡ true
