@@ -193,13 +193,18 @@ uint32_t caf_new(uint64_t *record, size_t record_len);
 uint32_t caf_resume(const uint8_t *buf, size_t buf_len, uint64_t file_len,
                     uint64_t *record, size_t record_len, uint64_t *chunks, size_t chunks_len);
 
-/* Settings: they write to the record alone. */
+/* Settings: they write to the record alone.
+ *
+ * Bytes per packet of the format are the bytes that hold `bits` (bits / 8, rounded up) times channels:
+ * 20 bits and 2 channels make 6. From 2^32 on: CAF_PACKET_TOO_BIG. Samples are packed in three bytes
+ * whatever `bits` says, so that a packet is a frame of them where bits is 17 to 24. */
 uint32_t caf_set_format(uint64_t *record, size_t record_len,
                         double rate, uint32_t channels, uint32_t bits, bool is_float, bool little_endian);
 uint32_t caf_set_layout_tag(uint64_t *record, size_t record_len, uint32_t tag);
 uint32_t caf_set_layout_for_labels(uint64_t *record, size_t record_len,
                                    const uint32_t *labels, size_t label_count, uint32_t channels);
-/* Format and labels in one call: both are set, or neither. */
+/* Format and labels in one call: both are set, or neither. The format is of integers, big-endian; bytes
+ * per packet as for caf_set_format. */
 uint32_t caf_configure_format(uint64_t *record, size_t record_len,
                               double rate, uint32_t channels, uint32_t bits,
                               const uint32_t *labels, size_t label_count);

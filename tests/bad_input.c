@@ -127,6 +127,28 @@ static void example(void) {
     HOLDS(call_on(tag, &at, CAF_RECORD - 1, 0) == CAF_BAD_WRITER);
 }
 
+/* Bytes per packet: bits that fill no byte take one more, and the product has to fit 32 bits. */
+static void packets(void) {
+    static const struct { uint32_t bits, channels, number, bytes; } rows[] = {
+        {20, 2, CAF_DONE, 6}, {24, 2, CAF_DONE, 6}, {0, 2, CAF_DONE, 0}, {1, 1, CAF_DONE, 1},
+        {31, 1073741823, CAF_DONE, 4294967292}, {31, 1073741824, CAF_PACKET_TOO_BIG, 0},
+        {20, 1431655765, CAF_DONE, 4294967295}, {20, 1431655766, CAF_PACKET_TOO_BIG, 0},
+        {4294967295, 7, CAF_DONE, 3758096384}, {4294967295, 8, CAF_PACKET_TOO_BIG, 0},
+        {4294967295, 4294967295, CAF_PACKET_TOO_BIG, 0},
+    };
+    struct lent at;
+    size_t i;
+
+    for (i = 0; i < sizeof rows / sizeof *rows; i++) {
+        fresh(&at);
+        HOLDS(caf_set_format(at.record, CAF_RECORD, 48000.0, rows[i].channels, rows[i].bits, false, false) == rows[i].number);
+        HOLDS(at.record[CAF_RECORD_BYTES_PER_PACKET] == rows[i].bytes);
+        fresh(&at);
+        HOLDS(caf_configure_format(at.record, CAF_RECORD, 48000.0, rows[i].channels, rows[i].bits, NULL, 0) == rows[i].number);
+        HOLDS(at.record[CAF_RECORD_BYTES_PER_PACKET] == rows[i].bytes);
+    }
+}
+
 static void no_elements(void) {
     uint64_t out[CAF_STRICT_PLACES], chunks = 77, record[CAF_RECORD];
     size_t i;
@@ -231,6 +253,7 @@ static void feeders(void) {
 int main(void) {
     no_elements();
     example();
+    packets();
     random_records();
     feeders();
     printf("bad_input: %lu checks hold\n", checks);

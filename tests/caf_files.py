@@ -14,7 +14,7 @@ def header(version=1):
 
 
 def desc(rate=48000.0, channels=2, bits=24, flags=0, packet=None):
-    packet = bits // 8 * channels if packet is None else packet
+    packet = -(-bits // 8) * channels if packet is None else packet
     return chunk(b'desc', struct.pack('>d', rate) + b'lpcm' + struct.pack('>IIIII', flags, packet, 1, channels, bits))
 
 

@@ -8,8 +8,8 @@ import time
 PROGRAM = [pathlib.Path(__file__).resolve().parent.parent / 'tools' / 'program', 'list']
 
 
-def listing(length, size_position, payload, state, frames, channels=2, packet=6):
-    return (f'file {length}\nrate 40e7700000000000\nid 1819304813\nflags 0\npacket {packet} 1\nchannels {channels} 24\n'
+def listing(length, size_position, payload, state, frames, channels=2, packet=6, bits=24):
+    return (f'file {length}\nrate 40e7700000000000\nid 1819304813\nflags 0\npacket {packet} 1\nchannels {channels} {bits}\n'
             f'data {size_position} {size_position + 12}\npayload {payload} {state}\nframes {frames}\n')
 
 

@@ -61,7 +61,7 @@ class Writer:
 
     def configure(self, rate, channels, bits, labels):
         """Format and labels in one call: both or neither. The flags are 0, as in 01's listing: whole numbers, big-endian."""
-        packet = bits // 8 * channels
+        packet = -(-bits // 8) * channels  # 02, T-02: rounded up
         if math.isnan(rate):
             return BAD_RATE
         if packet >= 2 ** 32:
@@ -107,6 +107,9 @@ class Writer:
             self.finished = True
         return DONE
 
+# around bits that fill no byte, and where the product reaches 2^32
+PACKETS = [(20, 2), (0, 2), (31, 2 ** 30 - 1), (31, 2 ** 30), (20, 1431655765), (20, 1431655766), (2 ** 32 - 1, 7), (2 ** 32 - 1, 8)]
+
 
 def lines():
     w = Writer(bytes([pcm.BYTE] * 100))
@@ -122,6 +125,12 @@ def lines():
     yield 'behind' + pcm.hexes(w.room[w.length:])
     for n in 64, 65:
         yield f'labels {n}: {Writer().set_labels((LEFT,) * n, n)}'
+    for bits, channels in PACKETS:
+        w = Writer(bytes([pcm.BYTE] * 68))
+        # no labels for so many channels: no layout
+        number = w.configure(48000.0, channels, bits, ())
+        w.header()
+        yield f'bits {bits} channels {channels}: {number}, packet{pcm.hexes(w.room[36:40])}'
 
 
 if __name__ == '__main__':

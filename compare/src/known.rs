@@ -44,6 +44,10 @@ pub fn check_all(side: &dyn Side) {
     let found = Found { format: Some(format), little: false, size_position: 80, data_start: 92 };
     check("the example read", side.parse(&last.file), Reading { number: DONE, chunks: 3, found: Some(found) });
 
+    let twenty = Call::Configure { rate: 48000, channels: 2, bits: 20, labels: vec![1, 2] };
+    let last = side.run(&vec![twenty, Call::Header]).pop().expect("two answers");
+    check("20 bits of two channels take six bytes", hex(&last.file[36..40]), "00000006".to_string());
+
     let bare = Found { format: None, little: false, size_position: 12, data_start: 24 };
     let audio = [HEADS[0], &chunk(b"data", -1, &[0; 4])].concat();
     check("audio alone", side.parse(&audio), Reading { number: DONE, chunks: 1, found: Some(bare) });

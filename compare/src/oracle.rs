@@ -3,7 +3,8 @@
 //! The watching stops the text at the two places that 01 leaves out of the comparison and where it would go on
 //! (a skip of 2^63 or more, which it takes for a step back and may repeat for ever; a rate that is no number),
 //! and counts the chunk headers that it reads. All of this is seen in the text's own reads and seeks:
-//! there is no second parser here.
+//! there is no second parser here. One number is not the text's own: where a setting's bits are no whole bytes, the
+//! header's bytes per packet are 02's (T-02), so that our number is held to it and every other byte to the text.
 
 use std::cell::RefCell;
 use std::io::{self, Cursor, Error, ErrorKind, Read, Seek, SeekFrom, Write};
@@ -60,6 +61,9 @@ impl Watch {
     }
 }
 
+/// Where a header of ours has its bytes per packet.
+const PACKET_PLACE: usize = 36;
+
 struct Disk {
     cursor: Cursor<Vec<u8>>,
     /// bytes that can still be stored before the disk fails
@@ -79,6 +83,14 @@ impl Shared {
 
     fn file(&self) -> Vec<u8> {
         self.0.borrow().cursor.get_ref().clone()
+    }
+
+    /// Puts other bytes per packet into the header, as far as it was stored.
+    fn put_packet(&self, bytes: u32) {
+        let file = &mut *self.0.borrow_mut();
+        for (place, byte) in file.cursor.get_mut().iter_mut().skip(PACKET_PLACE).zip(bytes.to_be_bytes()) {
+            *place = byte;
+        }
     }
 
     fn reading(&self, parsed: io::Result<()>) -> (u32, u64) {
@@ -176,13 +188,15 @@ struct Session {
     disk: Shared,
     writer: Option<mem::ManuallyDrop<Writer>>,
     past: Past,
+    /// of the format that is set, where they are not the text's own
+    packet: Option<u32>,
 }
 
 impl Session {
     fn new() -> Self {
         let disk = Shared::new(Vec::new());
         let writer = Some(mem::ManuallyDrop::new(CAFWriter::new(disk.clone())));
-        Session { disk, writer, past: Past::default() }
+        Session { disk, writer, past: Past::default(), packet: None }
     }
 
     fn step(&mut self, call: &Call) -> Step {
@@ -192,6 +206,7 @@ impl Session {
         };
         if number == DONE {
             self.past.after(call);
+            self.round_up(call);
         }
         let stats = self.writer.as_ref().map(|writer| writer.stats());
         Step {
@@ -200,6 +215,15 @@ impl Session {
             data_count: stats.as_ref().map_or(0, |stats| stats.data_written),
             finished: stats.is_some_and(|stats| stats.finished),
             file: self.disk.file(),
+        }
+    }
+
+    fn round_up(&mut self, call: &Call) {
+        if call.sets_format() {
+            self.packet = call.rounded_up();
+        }
+        if let Some(bytes) = self.packet.filter(|_| call.is_header()) {
+            self.disk.put_packet(bytes);
         }
     }
 
@@ -229,7 +253,9 @@ impl Session {
         };
         let answer = disk.reading(resumed);
         *self = match writer {
-            Some(writer) => Session { disk, writer: Some(mem::ManuallyDrop::new(writer)), past: self.past },
+            Some(writer) => {
+                Session { disk, writer: Some(mem::ManuallyDrop::new(writer)), past: self.past, packet: None }
+            }
             None => Session::new(),
         };
         answer

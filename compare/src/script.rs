@@ -83,9 +83,35 @@ impl Past {
     }
 }
 
+impl Call {
+    /// Bytes per packet of a setting whose bits are no whole bytes: the Rust rounds down there, we up (02, T-02).
+    pub fn rounded_up(&self) -> Option<u32> {
+        let (Call::Format { channels, bits, .. } | Call::Configure { channels, bits, .. }) = self else {
+            return None;
+        };
+        (bits % 8 != 0).then(|| packet_bytes(*channels, *bits)).and_then(|bytes| u32::try_from(bytes).ok())
+    }
+
+    pub fn sets_format(&self) -> bool {
+        matches!(self, Call::Format { .. } | Call::Configure { .. })
+    }
+
+    /// A header call, whole or cut.
+    pub fn is_header(&self) -> bool {
+        match self {
+            Call::Cut(call, _) => call.is_header(),
+            _ => *self == Call::Header,
+        }
+    }
+}
+
+/// As many bytes as the bits of a sample need, once for every channel (02, T-02).
+fn packet_bytes(channels: u32, bits: u32) -> u64 {
+    u64::from(bits).div_ceil(8) * u64::from(channels)
+}
+
 fn packet_outside(channels: u32, bits: u32) -> Option<u32> {
-    let bytes = u64::from(bits / 8) * u64::from(channels);
-    (bytes > u64::from(u32::MAX)).then_some(PACKET_TOO_BIG)
+    (packet_bytes(channels, bits) > u64::from(u32::MAX)).then_some(PACKET_TOO_BIG)
 }
 
 fn labels_outside(labels: &[u32], channels: u32) -> Option<u32> {

@@ -11,7 +11,7 @@ const LEFT_RIGHT: [u32; 2] = [1, 2];
 pub fn alphabet() -> Vec<Call> {
     vec![
         Call::Configure { rate: 48000, channels: 2, bits: 24, labels: LEFT_RIGHT.to_vec() },
-        Call::Format { rate_bits: 44100.5f64.to_bits(), channels: 1, bits: 20, float: true, little: true },
+        Call::Format { rate_bits: 44100.5f64.to_bits(), channels: 1, bits: 16, float: true, little: true },
         Call::Labels { labels: vec![2, 1], channels: 2 },
         Call::Labels { labels: LEFT_RIGHT.to_vec(), channels: 3 },
         Call::Tag(names::TAGS[0] as u32),
@@ -21,6 +21,7 @@ pub fn alphabet() -> Vec<Call> {
         Call::Finish,
         Call::Resume,
         Call::Cut(Box::new(Call::Finish), 7),
+        Call::Format { rate_bits: 48000f64.to_bits(), channels: 2, bits: 20, float: false, little: false },
     ]
 }
 

@@ -119,7 +119,7 @@ fn settings() {
         writer.write_pcm_24bit_as_packed(&[1, -1]).expect("samples");
     });
     say(
-        "20 bits x 2 channels, one frame of packed samples",
+        "20 bits x 2 channels, one frame of packed samples (ours: 6)",
         format!("bytes per packet {}, payload {}", hex(&file[36..40]), file.len() - 68),
     );
     let file = file_of(|writer| {

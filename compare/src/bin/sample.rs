@@ -56,7 +56,8 @@ impl Sample {
     fn script(&mut self, script: Script) {
         let steps = Rust.run(&script);
         let inside = steps.iter().all(|step| !outside(step.number));
-        if inside && !script.is_empty() {
+        let own = script.iter().all(|call| call.rounded_up().is_none());
+        if inside && own && !script.is_empty() {
             self.keep(encode::script(&script, &steps));
         }
     }

@@ -23,6 +23,8 @@ enum Lie {
     LowByteFirst,
     /// a second finish is refused
     SecondFinish,
+    /// bytes per packet rounded down for bits that are no whole bytes, as the text has it
+    RoundedDown,
 }
 
 struct Liar(Lie);
@@ -69,6 +71,9 @@ impl Side for Liar {
                     }
                 }
                 (Lie::SecondFinish, Call::Finish) if past == u64::MAX => step.number = FINISHED,
+                (Lie::RoundedDown, Call::Header) if step.number == DONE && step.file[51] == 20 => {
+                    step.file[39] = 2 * step.file[47];
+                }
                 _ => {}
             }
             past = if step.finished { u64::MAX } else { step.data_count };
@@ -91,6 +96,7 @@ fn main() {
         Lie::CountAfterResume,
         Lie::LowByteFirst,
         Lie::SecondFinish,
+        Lie::RoundedDown,
     ] {
         match Comparison::new(&Liar(lie), &Rust).all(1, 200) {
             Ok(()) => panic!("{lie:?} was not found"),

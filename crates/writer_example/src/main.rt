@@ -1,6 +1,8 @@
 // Writes document 01's example and prints it: 48000 Hz, two channels, 24 bits, Stereo, samples 1 and -1, finished. Each line of a call
 // has its number and the length of the file then. The buffer was lent filled with ee, so the bytes behind the file show that they kept
-// their contents. The last two lines run 01's bound on labels.
+// their contents. Then come 01's bound on labels, and bytes per packet as the header has them.
+use format::Endianness;
+use format::PCMDataType;
 use layout::label::LEFT;
 use layout::label::RIGHT;
 use writer::CAFWriter;
@@ -47,6 +49,28 @@ fn labels(labels: &[u32], channels: u32) {
     show::newline();
 }
 
+// The four bytes in the header: bits that fill no byte take one more. A refused format leaves no header, and the buffer as it was.
+fn packet(bits: u32, channels: u32) {
+    let mut buf = [BYTE; 68];
+    let set = CAFWriter::new().set_audio_format_with_options(
+        48000.0,
+        channels,
+        bits,
+        PCMDataType::SignedInteger,
+        Endianness::BigEndian,
+    );
+    let number = set.number;
+    let ready = set.writer;
+    ready.write_header(&mut buf);
+    show::word(b"bits ");
+    show::decimal(bits as u64);
+    show::word(b" channels ");
+    show::decimal(channels as u64);
+    show::word(b": ");
+    show::decimal(number as u64);
+    part(b", packet", &buf[36..40]);
+}
+
 fn main() {
     let mut buf = [BYTE; 100];
     let written = write_example(&mut buf);
@@ -58,4 +82,12 @@ fn main() {
     let row = [LEFT; 65];
     labels(&row[..64], 64);
     labels(&row, 65);
+    packet(20, 2);
+    packet(0, 2);
+    packet(31, 1073741823);
+    packet(31, 1073741824);
+    packet(20, 1431655765);
+    packet(20, 1431655766);
+    packet(4294967295, 7);
+    packet(4294967295, 8);
 }
