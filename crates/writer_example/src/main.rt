@@ -71,6 +71,18 @@ fn packet(bits: u32, channels: u32) {
     part(b", packet", &buf[36..40]);
 }
 
+// Around bits that fill no byte, and where the product reaches 2^32.
+fn packets() {
+    packet(20, 2);
+    packet(0, 2);
+    packet(31, 1073741823);
+    packet(31, 1073741824);
+    packet(20, 1431655765);
+    packet(20, 1431655766);
+    packet(4294967295, 7);
+    packet(4294967295, 8);
+}
+
 fn main() {
     let mut buf = [BYTE; 100];
     let written = write_example(&mut buf);
@@ -82,12 +94,5 @@ fn main() {
     let row = [LEFT; 65];
     labels(&row[..64], 64);
     labels(&row, 65);
-    packet(20, 2);
-    packet(0, 2);
-    packet(31, 1073741823);
-    packet(31, 1073741824);
-    packet(20, 1431655765);
-    packet(20, 1431655766);
-    packet(4294967295, 7);
-    packet(4294967295, 8);
+    packets();
 }

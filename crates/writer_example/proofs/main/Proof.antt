@@ -50,6 +50,9 @@ slice-aggregate-labels-2 c = search needs
 labels-requires-2 : tie.Need-labels-requires-2
 labels-requires-2 c κs = search needs
 
+packets-requires : tie.Need-packets-requires
+packets-requires c κs = search needs
+
 returns : tie.Need-returns
 returns c = search needs
 
@@ -72,4 +75,5 @@ main-spec =
     labels-requires
     slice-aggregate-labels-2
     labels-requires-2
+    packets-requires
     returns)
