@@ -113,6 +113,16 @@ fn settings() {
     });
     say("32 bits x 1073741824 channels, release", format!("done, bytes per packet {}", hex(&file[36..40])));
     say("the same, debug", child("wrap"));
+    for (channels, bits, ours) in [(1, 1, "1"), (1 << 30, 31, "refused 15")] {
+        let file = file_of(|writer| {
+            writer.set_audio_format(48000.0, channels, bits).expect("a format is always taken");
+            writer.write_header().expect("the header");
+        });
+        say(
+            &format!("{bits} bits x {channels} channels (ours: {ours})"),
+            format!("done, bytes per packet {}", hex(&file[36..40])),
+        );
+    }
     let file = file_of(|writer| {
         writer.set_audio_format(48000.0, 2, 20).expect("a format is always taken");
         writer.write_header().expect("the header");
