@@ -3,6 +3,7 @@ import struct
 
 STEREO = 6619138
 DESCRIPTIONS = 0
+BITMAP = 65536
 
 
 def chunk(name, body, size=None):
@@ -18,8 +19,8 @@ def desc(rate=48000.0, channels=2, bits=24, flags=0, packet=None):
     return chunk(b'desc', struct.pack('>d', rate) + b'lpcm' + struct.pack('>IIIII', flags, packet, 1, channels, bits))
 
 
-def chan(tag, labels=()):
-    body = struct.pack('>III', tag, 0, len(labels))
+def chan(tag, labels=(), bitmap=0):
+    body = struct.pack('>III', tag, bitmap, len(labels))
     return chunk(b'chan', body + b''.join(struct.pack('>IIfff', label, 0, 0.0, 0.0, 0.0) for label in labels))
 
 

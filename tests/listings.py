@@ -8,9 +8,9 @@ import time
 PROGRAM = [pathlib.Path(__file__).resolve().parent.parent / 'tools' / 'program', 'list']
 
 
-def listing(length, size_position, payload, state, frames, channels=2, packet=6, bits=24):
+def listing(length, size_position, payload, state, frames, channels=2, packet=6, bits=24, layout='none'):
     return (f'file {length}\nrate 40e7700000000000\nid 1819304813\nflags 0\npacket {packet} 1\nchannels {channels} {bits}\n'
-            f'data {size_position} {size_position + 12}\npayload {payload} {state}\nframes {frames}\n')
+            f'data {size_position} {size_position + 12}\npayload {payload} {state}\nframes {frames}\nlayout {layout}\n')
 
 
 def until_read(program, pipe):
