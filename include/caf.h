@@ -38,7 +38,8 @@ enum caf_number {
     CAF_BAD_TAG = 18,
     CAF_BAD_WRITER = 19,
     CAF_ODD_LENGTH = 20,
-    CAF_TOO_LONG = 21
+    CAF_TOO_LONG = 21,
+    CAF_BAD_LAYOUT = 22
 };
 
 /* ---- the readings */
@@ -148,6 +149,60 @@ enum caf_layout_place {
 /* The layout that a writer would take for these labels. Writes out[0..1]. With fewer than
  * CAF_LAYOUT_PLACES places: CAF_NO_ROOM, and writes nothing. */
 uint32_t caf_layout_for_labels(const uint32_t *labels, size_t label_count, uint64_t *out, size_t out_len);
+
+/* ---- the layout that a file says
+ *
+ *     number = caf_read_strict(file, file_len, info, CAF_STRICT_PLACES);
+ *     caf_find_chan(file, file_len, place, CAF_CHAN_PLACES);
+ *     if (number == CAF_DONE && place[CAF_CHAN_FOUND])
+ *         number = caf_read_chan(file + place[CAF_CHAN_START], place[CAF_CHAN_SIZE],
+ *                                (uint32_t)info[CAF_STRICT_CHANNELS], out, out_len, said, CAF_SAID_PLACES);
+ */
+
+/* Places in the array that caf_find_chan fills. */
+enum caf_chan_place {
+    CAF_CHAN_FOUND = 0, /* 1, or 0 where there is none: then the other two are 0 as well */
+    CAF_CHAN_START = 1, /* where in the file the body stands */
+    CAF_CHAN_SIZE = 2,  /* how many bytes it has */
+    CAF_CHAN_PLACES = 3
+};
+
+/* The first `chan` before the data. It goes by the sizes of chunk headers, looks at no other byte and
+ * refuses no file: whether the bytes are one is caf_read_strict's to say. A place that it finds lies
+ * within the file; a chunk that runs past the end ends the search. Writes out[0..2]. With fewer than
+ * CAF_CHAN_PLACES places: CAF_NO_ROOM, and writes nothing. */
+uint32_t caf_find_chan(const uint8_t *file, size_t file_len, uint64_t *out, size_t out_len);
+
+/* Places in the array `said` of caf_read_chan. */
+enum caf_said_place {
+    CAF_SAID_TAG = 0,
+    CAF_SAID_BITMAP = 1,
+    CAF_SAID_COUNT = 2,       /* how many channels are described */
+    CAF_SAID_ORDER_COUNT = 3, /* channels in the order that the tag stands for; 0 where it names no row */
+    CAF_SAID_ORDER = 4,       /* the labels of that order, and zeros up to eight */
+    CAF_SAID_PLACES = 12
+};
+
+/* Places of one description in the array `out` of caf_read_chan, CAF_DESCRIPTION for each. */
+enum caf_description_place {
+    CAF_DESCRIPTION_LABEL = 0,
+    CAF_DESCRIPTION_KNOWN = 1, /* 1 where the label is one of the 47, else 0 */
+    CAF_DESCRIPTION_FLAGS = 2,
+    CAF_DESCRIPTION_COORDINATES = 3, /* three, each by its 32 bits, an IEEE 754 float */
+    CAF_DESCRIPTION = 6
+};
+
+/* What the body of a `chan` says. `channels` is the count of channels in `desc`. Done: writes
+ * said[0..11], and to out the descriptions one after the other; the places after them keep their
+ * contents. Refused: writes nothing. In this order:
+ *   CAF_NO_ROOM     fewer than CAF_SAID_PLACES places in `said`;
+ *   CAF_CUT_SHORT   a body of fewer than 12 bytes;
+ *   CAF_BAD_LAYOUT  a body that is not 12 + 20 * n bytes long, n being its count of descriptions; tag 0
+ *                   where n is not `channels`; any other tag but 65536 whose low half is not `channels`;
+ *   CAF_NO_ROOM     fewer than CAF_DESCRIPTION * n places in `out`.
+ * Tags, labels and bitmaps that are none of CAF's are given as they stand. */
+uint32_t caf_read_chan(const uint8_t *body, size_t body_len, uint32_t channels,
+                       uint32_t *out, size_t out_len, uint64_t *said, size_t said_len);
 
 /* ---- the writer
  *

@@ -1,23 +1,9 @@
 /* Every exported call with slices of no elements, with room one short, and with records of random numbers, the writer's and the feeder's. What is held: the number
  * is one of the table's and, where it is told here, the right one; a refused call leaves every place that it was lent as it was;
  * places behind a result keep their contents. Under valgrind it also shows that no other byte is touched. */
-#include <stdio.h>
-#include <stdlib.h>
-#include <string.h>
-
 #include "caf.h"
+#include "holds.h"
 #include "random.h"
-
-static unsigned long checks;
-
-#define HOLDS(fact)                                                                \
-    do {                                                                           \
-        checks++;                                                                  \
-        if (!(fact)) {                                                             \
-            printf("bad_input: line %d: %s\n", __LINE__, #fact);                   \
-            exit(1);                                                               \
-        }                                                                          \
-    } while (0)
 
 enum { ROOM = 256 };
 
@@ -26,16 +12,6 @@ struct lent {
     uint8_t buf[ROOM];
     uint64_t out[4];
 };
-
-/* A copy on the heap, so that valgrind knows where each slice ends. */
-static void *copy_of(const void *from, size_t size) {
-    void *to = malloc(size ? size : 1);
-    if (!to)
-        exit(2);
-    if (size)
-        memcpy(to, from, size);
-    return to;
-}
 
 typedef uint32_t (*writing)(uint64_t *record, size_t record_len, uint8_t *buf, size_t buf_len);
 

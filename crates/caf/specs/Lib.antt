@@ -3,6 +3,7 @@ pub mod FormatNumbers
 pub mod ReadingNumbers
 pub mod RecordNumbers
 pub mod LayoutNumbers
+pub mod ChanNumbers
 pub mod RecordCalls
 pub mod RecordMade
 pub mod FeederNumbers

@@ -1,6 +1,7 @@
 // What C and Rust link as libcaf.a; include/caf.h declares it. A slice is passed as a pointer and a length, and every call takes
 // any lengths and any contents: none has a `requires`.
 pub mod blocks;
+pub mod chan;
 mod choices;
 pub mod counted;
 mod feeder_from;

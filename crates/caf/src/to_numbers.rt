@@ -10,13 +10,12 @@ use crate::from_numbers::ORDER;
 use crate::from_numbers::TAGGED;
 use crate::numbers::flag;
 use crate::numbers::put;
+use crate::numbers::put_labels;
 use layout::ChannelLayout;
 use writer::CAFWriter;
 ghost use mathlib.Core.Path.{_≡_};
-ghost use Prim.Native.Nat.{_+_, _≤_};
 ghost use lib.ListN.{length};
-ghost use Rattle.byteorder.specs.Splice.{splice};
-ghost use Rattle.caf.specs.RecordNumbers.{recordPlaces, labelsPlace, layoutKind, layoutTag, recordNumbers};
+ghost use Rattle.caf.specs.RecordNumbers.{recordPlaces, layoutKind, layoutTag, recordNumbers};
 
 pub(crate) fn layout_kind(layout: ChannelLayout) -> u64
     ensures { λ r. ⌜ r ≡ layoutKind layout ⌝ }
@@ -38,17 +37,6 @@ pub(crate) fn layout_tag(layout: ChannelLayout) -> u64
     }
 }
 
-fn put_labels(out: &mut [u64], labels: &[u32])
-    requires { ⌜ labelsPlace + length (now labels) ≤ length (now out) ⌝ }
-    ensures { λ _. ⌜ now (out .exit) ≡ splice (now (out .entry)) labelsPlace (now (labels .entry)) ⌝ }
-{
-    let mut i: usize = 0;
-    while i < labels.len() {
-        out[LABELS + i] = labels[i] as u64;
-        i += 1;
-    }
-}
-
 pub(crate) fn put_record(out: &mut [u64], w: CAFWriter)
     requires { ⌜ length (now out) ≡ recordPlaces ⌝ }
     ensures { λ _. ⌜ now (out .exit) ≡ recordNumbers w ⌝ }
@@ -66,7 +54,7 @@ pub(crate) fn put_record(out: &mut [u64], w: CAFWriter)
     ];
     put(out, ORDER, &order);
     let labels = w.labels;
-    put_labels(out, &labels);
+    put_labels(out, LABELS, &labels);
     let places = [
         flag(w.has_header),
         w.size_position as u64,

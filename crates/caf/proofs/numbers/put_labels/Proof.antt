@@ -5,17 +5,17 @@ use native.Mathlib.Numerals.{add-one}
 use mathlib.Core.Path.{_≡_, refl, _∙_}
 use Prim.Native.Nat.{_≤_, _<_, _-_, _+_}
 use borrow.Author.Needs.{needs}
-use Rattle.caf.proofs.to_numbers.put_labels.Statement.{statement}
-use Rattle.caf.proofs.to_numbers.put_labels.Tie as tie
+use Rattle.caf.proofs.numbers.put_labels.Statement.{statement}
+use Rattle.caf.proofs.numbers.put_labels.Tie as tie
 
 abbrev Inv-loop : tie.InvT-loop
-Inv-loop out₀ labels i₀ out i = (i ≤ length labels) × (length out ≡ length out₀) × (out ≡ paste out₀ 12 labels i)
+Inv-loop out₀ at labels i₀ out i = (i ≤ length labels) × (length out ≡ length out₀) × (out ≡ paste out₀ at labels i)
 
 abbrev μ-loop : tie.MeasureT-loop
-μ-loop out₀ labels i₀ out i = length labels - i
+μ-loop out₀ at labels i₀ out i = length labels - i
 
 loop-holds : tie.Need-loop-holds Inv-loop μ-loop
-loop-holds c = (omega arith, refl, paste-zero (c .args .out .now) 12 (c .args .labels .now))
+loop-holds c = (omega arith, refl, paste-zero (c .args .out .now) (c .args .at) (c .args .labels .now))
 
 mul-out : tie.Need-mul-out Inv-loop μ-loop
 mul-out c = search needs
@@ -45,9 +45,9 @@ loop-again : tie.Need-loop-again Inv-loop μ-loop
 loop-again c =
     let l = c .before .before .loop in
     let a = c .before .before .before .args in
-    let hd : 12 + l .i < length (a .out .now) = omega arith in
+    let hd : a .at + l .i < length (a .out .now) = omega arith in
     let hs : l .i < length (a .labels .now) = omega arith in
-    (omega arith, simp length-set (l .inv .1), rw (add-one, l .inv .2) (paste-suc (a .out .now) 12 (a .labels .now) (l .i) 0 hd hs))
+    (omega arith, simp length-set (l .inv .1), rw (add-one, l .inv .2) (paste-suc (a .out .now) (a .at) (a .labels .now) (l .i) 0 hd hs))
 
 same-length : tie.Need-same-length Inv-loop μ-loop
 same-length c = search needs

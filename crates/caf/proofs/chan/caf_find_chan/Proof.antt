@@ -1,0 +1,40 @@
+use Rattle.caf.specs.ChanNumbers.{placeNumbers}
+use Rattle.byteorder.specs.Splice.{splice}
+use borrow.Author.Tests.{lt-ltb, le-ltb}
+use mathlib.Core.Path.{_∙_, ap}
+use borrow.Author.Needs.{needs}
+use Rattle.caf.proofs.chan.caf_find_chan.Statement.{statement}
+use Rattle.caf.proofs.chan.caf_find_chan.Tie as tie
+
+returns : tie.Need-returns
+returns c = let t = lt-ltb _ _ (c .if1 .taken) in (rw t, rw t)
+
+find-chan-requires : tie.Need-find-chan-requires
+find-chan-requires c κs = search needs
+
+place-numbers-requires : tie.Need-place-numbers-requires
+place-numbers-requires c κs = search needs
+
+slice-aggregate-put : tie.Need-slice-aggregate-put
+slice-aggregate-put c = search needs
+
+put-requires : tie.Need-put-requires
+put-requires c κs = search needs
+
+same-length : tie.Need-same-length
+same-length c = search needs
+
+returns-2 : tie.Need-returns-2
+returns-2 c = let t = le-ltb _ _ (c .before .before .before .before .before .before .before .if1 .left) in (rw t, rw t (c .before .before .put .ensures ∙ ap (splice (c .before .before .before .before .before .before .before .before .before .before .args .out .now) 0) (c .before .before .before .before .before .place-numbers .ensures ∙ ap placeNumbers (c .before .before .before .before .before .before .find-chan .ensures))))
+
+pub caf-find-chan-spec : {M : Type 1} → statement M
+caf-find-chan-spec =
+    tie.close
+    (tie.spec
+    returns
+    find-chan-requires
+    place-numbers-requires
+    slice-aggregate-put
+    put-requires
+    same-length
+    returns-2)

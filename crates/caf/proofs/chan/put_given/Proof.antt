@@ -1,0 +1,52 @@
+use Rattle.byteorder.proofs.Laws.{more}
+use lib.ListN.{length}
+use native.Mathlib.Omega.{arith}
+use mathlib.Core.List.{[], _∷_}
+use mathlib.Core.Path.{_≡_, refl}
+use borrow.Author.Needs.{needs}
+use Rattle.caf.proofs.chan.put_given.Statement.{statement}
+use Rattle.caf.proofs.chan.put_given.Tie as tie
+
+labels-length : (c : tie.Start) → length (c .args .order .labels) ≡ 8
+labels-length c = search needs
+
+cast-t6 : tie.Need-cast-t6
+cast-t6 c = search needs
+
+cast-t7 : tie.Need-cast-t7
+cast-t7 c = search needs
+
+cast-t8 : tie.Need-cast-t8
+cast-t8 c = search needs
+
+slice-aggregate-put : tie.Need-slice-aggregate-put
+slice-aggregate-put c = search needs
+
+put-requires : tie.Need-put-requires
+put-requires c κs = search needs
+
+slice-aggregate-put-labels : tie.Need-slice-aggregate-put-labels
+slice-aggregate-put-labels c = search needs
+
+put-labels-requires : tie.Need-put-labels-requires
+put-labels-requires c κs = let k = labels-length (c .before .before .before .before .before .before .before .before .before .before .before .before) in omega (arith, c .before .before .before .before .before .put .kept .0)
+
+same-length : tie.Need-same-length
+same-length c = search needs
+
+returns : tie.Need-returns
+returns c = let a = c .before .before .before .before .before .before .before .before .before .before .before .before .before .before .before .args in let k = labels-length (c .before .before .before .before .before .before .before .before .before .before .before .before .before .before .before) in more (a .answer .now) 0 4 (a .head .tag ∷ a .head .bitmap ∷ a .head .count ∷ a .order .count ∷ []) (a .order .labels) (c .before .before .before .before .before .before .before .before .put .ensures) (c .before .before .put-labels .ensures) refl (omega arith)
+
+pub put-given-spec : {M : Type 1} → statement M
+put-given-spec =
+    tie.close
+    (tie.spec
+    cast-t6
+    cast-t7
+    cast-t8
+    slice-aggregate-put
+    put-requires
+    slice-aggregate-put-labels
+    put-labels-requires
+    same-length
+    returns)
