@@ -26,7 +26,7 @@ unfoldable pub findWithin : ℕ → List ℕ → ℕ → ChanPlace
 findWithin zero s p = Nowhere
 findWithin (suc n) s p = findStep (findWithin n s) s p
 
--- the search from position p. The law `find-on` of proofs/Finds says what it is: findFrom s p ≡ findStep (findFrom s) s p
+-- the search from position p. The law `find-on` of proofs/FindOn says what it is: findFrom s p ≡ findStep (findFrom s) s p
 unfoldable pub findFrom : List ℕ → ℕ → ChanPlace
 findFrom s p = findWithin (suc (length s - p)) s p
 

@@ -1,4 +1,4 @@
-use Rattle.chan_reading.proofs.Finds.{find-on}
+use Rattle.chan_reading.proofs.FindOn.{find-on}
 use Rattle.chan_reading.specs.Find.{findChan, findFrom}
 use borrow.Author.Tests.{lt-ltb, le-ltb}
 use borrow.Author.Needs.{needs}

@@ -23,7 +23,7 @@ use Rattle.chan_reading.specs.Claims.{FoundIsFirst, FoundOfStrict}
 use Rattle.chan_reading.specs.declared.ChanPlace.{ChanPlace}
 use Rattle.chan_reading.specs.declared.ChanPlace.the-variants.{At, Nowhere}
 use Rattle.chan_reading.proofs.Parts.{differs, desc-small, sizeOf, afterSize, parts}
-use Rattle.chan_reading.proofs.Finds.{find-on}
+use Rattle.chan_reading.proofs.FindOn.{find-on}
 
 -- at the data the search ends
 at-data : (pre tail : List ℕ) (size : ℕ) → findFrom (pre ++ (chunkHeader 'data' size ++ tail)) (length pre) ≡ Nowhere
