@@ -241,12 +241,19 @@ enum caf_record_place {
  * nothing. */
 uint32_t caf_new(uint64_t *record, size_t record_len);
 
-/* Resumes the file that stands in the first file_len bytes of the buffer. Done: writes the record.
- * Refused: writes a fresh record. In both cases writes the count of chunk headers met to chunks[0].
- * An array of another length than CAF_RECORD: CAF_BAD_WRITER; then no place for the count: CAF_NO_ROOM;
- * either writes nothing. */
-uint32_t caf_resume(const uint8_t *buf, size_t buf_len, uint64_t file_len,
+/* Resumes the file that stands in the first file_len bytes of the buffer. Done: puts -1 back into the
+ * data size field of the file, eight bytes from the most significant one, and writes the record.
+ * Refused: stores nothing in the buffer and writes a fresh record. In both cases writes the count of
+ * chunk headers met to chunks[0]. An array of another length than CAF_RECORD: CAF_BAD_WRITER; then no
+ * place for the count: CAF_NO_ROOM; either writes nothing. */
+uint32_t caf_resume(uint8_t *buf, size_t buf_len, uint64_t file_len,
                     uint64_t *record, size_t record_len, uint64_t *chunks, size_t chunks_len);
+
+/* The first n stores of a resume, or all eight. Writes out[0]: stores done, 0 if refused; out[1]: the
+ * length of the file, which is file_len; out[2]: the count of chunk headers met. Makes no record. Fewer
+ * than three places: CAF_NO_ROOM, and stores and writes nothing. */
+uint32_t caf_resume_counted(uint8_t *buf, size_t buf_len, uint64_t file_len, uint64_t n,
+                            uint64_t *out, size_t out_len);
 
 /* Settings: they write to the record alone.
  *

@@ -31,15 +31,18 @@ use Rattle.writer.proofs.Tests.{two, true-false}
 use Rattle.writer.proofs.Facts.{headed as headed-of, empty, sound-alone}
 use Rattle.writer.proofs.Kept.{header-allowed}
 use Rattle.writer.proofs.Made.{made-allowed}
-use Rattle.recovery.specs.Calls.{Call, set, header, bytes, samples, finish}
-use Rattle.recovery.specs.Session.{Session, start, isAccepted, doCall, run}
-use Rattle.recovery.specs.Cut.{remains, resting, fileOf}
+use Rattle.recovery.specs.Calls.{Call, isWriting, set, header, bytes, samples, finish}
+use Rattle.recovery.specs.Session.{Session, start, isAccepted, headed, doCall, run}
+use Rattle.recovery.specs.Cut.{Remains, stopped, resting, fileOf}
+use Rattle.recovery.specs.Sessions.{CutSession, isWritten, leaves, resumeCut, resumedFrom, afterFirst, afterNext, afterMore, leftBy, begins}
 use Rattle.recovery.specs.Layouts.{bodyOf, ReadAs, SaysLayout, channelsIn, SaysLayoutOf, LayoutReadBack, LayoutRecovered}
 use Rattle.recovery.proofs.Invariant.{Inv}
-use Rattle.recovery.proofs.Session.{begins, runs}
+use Rattle.recovery.proofs.Session.{runs}
+use Rattle.recovery.proofs.Session.{begins as begins-inv}
 use Rattle.recovery.proofs.Doing.{outcome-is}
 use Rattle.recovery.proofs.Makes.{Makes, fit-makes}
-use Rattle.recovery.proofs.Formats.{Formats, fresh-formats, run-formats}
+use Rattle.recovery.proofs.Formats.{Formats, run-formats}
+use Rattle.recovery.proofs.Sessions.{begun-inv, begun-formats}
 use Rattle.recovery.proofs.Remaining.{begun-by}
 use Rattle.recovery.proofs.NeverCut.{never-cut}
 
@@ -64,18 +67,25 @@ sound-known w h = go (w .layout) h
         let n = leb-true (w .«label_count») labelPlaces (d .0) in
         (rw length-take (omega arith), d .1)
 
--- at every point of a session the record at the header call holds one
-known-after : (s : Session) (call : Call) → KnownIn (s .atHeader) → KnownIn (doCall s call .atHeader)
+-- at every point of a session the record at the header call holds one: a header call that is accepted was made on a sound record
+known-headed : (s : Session) (call : Call) → isAccepted s call ≡ true → KnownIn (s .atHeader) → KnownIn (headed s call)
 unfolding headerCall
+known-headed s (set x) a k = k
+known-headed s header a k =
+    let w = s .writer in
+    let o = stores 0 (headerOf w) (withHeader w (length (headerOf w))) in
+    let p = outcome-is s header (headerNumber w (length (s .buffer))) o refl a in
+    sound-known w (sound-alone w (length (s .buffer)) (header-allowed w (length (s .buffer)) (p .0) .is-sound) .layout)
+known-headed s (bytes bs) a k = k
+known-headed s (samples xs) a k = k
+known-headed s finish a k = k
+
+known-after : (s : Session) (call : Call) → KnownIn (s .atHeader) → KnownIn (doCall s call .atHeader)
 known-after s (set x) k = k
 known-after s header k = go (isAccepted s header) refl
   where
     go : (b : Bool) → isAccepted s header ≡ b → KnownIn (cond b (s .writer) (s .atHeader))
-    go true a =
-        let w = s .writer in
-        let o = stores 0 (headerOf w) (withHeader w (length (headerOf w))) in
-        let p = outcome-is s header (headerNumber w (length (s .buffer))) o refl a in
-        sound-known w (sound-alone w (length (s .buffer)) (header-allowed w (length (s .buffer)) (p .0) .is-sound) .layout)
+    go true a = known-headed s header a k
     go false a = k
 known-after s (bytes bs) k = k
 known-after s (samples xs) k = k
@@ -85,6 +95,26 @@ run-known : (s : Session) (calls : List Call) → KnownIn (s .atHeader) → Know
 unfolding run
 run-known s [] k = k
 run-known s (call ∷ calls) k = run-known (doCall s call) calls (known-after s call k)
+
+-- and of what sessions leave
+leaves-known : (r : Remains) → KnownIn (r .atHeader) → (s : Session) → KnownIn (s .atHeader) → (calls : List Call) (n : ℕ) → KnownIn (leaves r s calls n .atHeader)
+unfolding leaves
+leaves-known r k s h [] n = k
+leaves-known r k s h (call ∷ calls) n =
+    leaves-known (cond (isWritten s call) (stopped s call n) r) (go (isWritten s call) refl) (doCall s call) (known-after s call h) calls n
+  where
+    go : (b : Bool) → isWritten s call ≡ b → KnownIn (cond b (stopped s call n) r .atHeader)
+    go true e = known-headed s call (two (isWriting call) (isAccepted s call) e .1) h
+    go false e = k
+
+more-known : (r : Remains) → KnownIn (r .atHeader) → (later : List CutSession) → KnownIn (afterMore r later .atHeader)
+unfolding afterMore
+more-known r k [] = k
+more-known r k (c ∷ cs) = more-known (afterNext r c) (leaves-known (resumeCut r (c .stores)) k (resumedFrom r) k (c .calls) (c .stores)) cs
+
+begun-known : (buffer : List ℕ) (earlier : List CutSession) → KnownIn (begins buffer earlier .atHeader)
+begun-known buffer [] = tt
+begun-known buffer (c ∷ cs) = more-known (afterFirst buffer c) (leaves-known (resting (start buffer)) tt (start buffer) tt (c .calls) (c .stores)) cs
 
 -- a layout in a file of ours
 module _ (layout : ChannelLayout) (ls : List ℕ) where
@@ -132,9 +162,9 @@ session-says s i forms k h =
     subst (SaysLayoutOf hd) (sym (b .file)) (made-says hd (b .f) (fit-makes hd (b .f) (b .format) (forms .at-header)) k (not (w .finished)) (s .arrived) small)
 
 pub layout-read-back : LayoutReadBack
-layout-read-back buffer calls t h =
-    let s = start buffer in
-    session-says (run s calls) (runs s calls (begins buffer)) (run-formats s calls t (fresh-formats buffer)) (run-known s calls tt) h
+layout-read-back buffer earlier calls t u h =
+    let s = begins buffer earlier in
+    session-says (run s calls) (runs s calls (begun-inv buffer earlier t)) (run-formats s calls u (begun-formats buffer earlier t)) (run-known s calls (begun-known buffer earlier)) h
 
 -- a finished record has a header
 finished-headed : (s : Session) → Inv s → s .writer .finished ≡ true → s .writer .«has_header» ≡ true
@@ -145,9 +175,10 @@ finished-headed s i f = go (s .writer .«has_header») refl
     go false e = absurd (true-false (sym f ∙ empty (s .writer) e (sound-alone (s .writer) (length (s .buffer)) (i .is-sound) .places) .going))
 
 pub layout-recovered : LayoutRecovered
-layout-recovered buffer calls t l n whole =
-    let u = never-cut buffer calls t l n whole in
-    let s = run (start buffer) (u .calls) in
-    let h = finished-headed s (runs (start buffer) (u .calls) (begins buffer)) (u .finished) in
-    let says = layout-read-back buffer (u .calls) (u .typed) h in
-    subst (SaysLayoutOf (remains l n .atHeader)) (sym (u .same-file)) (subst (λ (w : CAFWriter). SaysLayoutOf w (fileOf (resting s))) (u .same-header) says)
+layout-recovered buffer sessions t whole =
+    let r = leftBy buffer sessions in
+    let u = never-cut buffer sessions t whole in
+    let s = run (start (u .buffer)) (u .calls) in
+    let h = finished-headed s (runs (start (u .buffer)) (u .calls) (begins-inv (u .buffer))) (u .finished) in
+    let says = layout-read-back (u .buffer) [] (u .calls) tt (u .typed) h in
+    subst (SaysLayoutOf (r .atHeader)) (sym (u .same-file)) (subst (λ (w : CAFWriter). SaysLayoutOf w (fileOf (resting s))) (u .same-header) says)

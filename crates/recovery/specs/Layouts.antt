@@ -1,5 +1,5 @@
 -- 02, T-03: our writer's `chan` is read as the layout that was set, unless BadLayout applies. Of the file of every session, and of what is
--- recovered of one that was cut.
+-- recovered after any number of them were cut.
 use Prim.Native.Nat.{ℕ}
 use mathlib.Core.Path.{_≡_}
 use mathlib.Core.Bool.{true}
@@ -18,8 +18,9 @@ use Rattle.chan_reading.specs.Claims.{ReadsBack}
 use Rattle.writer.specs.Record.{labelsOf}
 use Rattle.writer.specs.declared.CAFWriter.{CAFWriter}
 use Rattle.recovery.specs.Calls.{Call, TypedCalls}
-use Rattle.recovery.specs.Session.{start, run}
-use Rattle.recovery.specs.Cut.{LastCall, remains, resting, fileOf}
+use Rattle.recovery.specs.Session.{run}
+use Rattle.recovery.specs.Cut.{resting, fileOf}
+use Rattle.recovery.specs.Sessions.{CutSession, TypedSessions, leftBy, begins}
 use Rattle.recovery.specs.Demand.{IsWhole, recoveredFile}
 
 -- the body of a `chan` that a layout is written as, with the labels beside it
@@ -51,15 +52,16 @@ channelsIn (Present f) = f .«channels_per_frame»
 abbrev pub SaysLayoutOf : CAFWriter → List ℕ → Type 0
 SaysLayoutOf w file = SaysLayout file (w .layout) (labelsOf w) (channelsIn (w .format))
 
--- at any time, once there is a header: the file says the layout that the record had at the header call, with the channels it had then
+-- at any time, in the first session and in any later one, once there is a header: the file says the layout that the record had at the
+-- header call, with the channels it had then
 abbrev pub LayoutReadBack : Type 0
 LayoutReadBack =
-    (buffer : List ℕ) (calls : List Call) → TypedCalls calls
-    → run (start buffer) calls .writer .«has_header» ≡ true
-    → SaysLayoutOf (run (start buffer) calls .atHeader) (fileOf (resting (run (start buffer) calls)))
+    (buffer : List ℕ) (earlier : List CutSession) (calls : List Call) → TypedSessions earlier → TypedCalls calls
+    → run (begins buffer earlier) calls .writer .«has_header» ≡ true
+    → SaysLayoutOf (run (begins buffer earlier) calls .atHeader) (fileOf (resting (run (begins buffer earlier) calls)))
 
--- and so does what a resume and a finish make of a file that was cut and is not shorter than its header
+-- and so does what a resume and a finish make of a file that sessions left and that is not shorter than its header
 abbrev pub LayoutRecovered : Type 0
 LayoutRecovered =
-    (buffer : List ℕ) (calls : List Call) → TypedCalls calls → (l : LastCall (start buffer) calls) (n : ℕ)
-    → IsWhole (remains l n) → SaysLayoutOf (remains l n .atHeader) (recoveredFile (remains l n))
+    (buffer : List ℕ) (sessions : List CutSession) → TypedSessions sessions
+    → IsWhole (leftBy buffer sessions) → SaysLayoutOf (leftBy buffer sessions .atHeader) (recoveredFile (leftBy buffer sessions))
