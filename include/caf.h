@@ -242,16 +242,26 @@ enum caf_record_place {
 uint32_t caf_new(uint64_t *record, size_t record_len);
 
 /* Resumes the file that stands in the first file_len bytes of the buffer. Done: puts -1 back into the
- * data size field of the file, eight bytes from the most significant one, and writes the record.
- * Refused: stores nothing in the buffer and writes a fresh record. In both cases writes the count of
- * chunk headers met to chunks[0]. An array of another length than CAF_RECORD: CAF_BAD_WRITER; then no
- * place for the count: CAF_NO_ROOM; either writes nothing. */
+ * data size field of the file, eight stores from the most significant byte, also where it holds -1
+ * already, and writes the record. From then on, until caf_finish, the file reads as open: whatever a
+ * host appends before it dies counts as payload. Refused: stores nothing in the buffer and writes a
+ * fresh record. In both cases writes the count of chunk headers met to chunks[0]. An array of another
+ * length than CAF_RECORD: CAF_BAD_WRITER; then no place for the count: CAF_NO_ROOM; either stores and
+ * writes nothing. */
 uint32_t caf_resume(uint8_t *buf, size_t buf_len, uint64_t file_len,
                     uint64_t *record, size_t record_len, uint64_t *chunks, size_t chunks_len);
 
-/* The first n stores of a resume, or all eight. Writes out[0]: stores done, 0 if refused; out[1]: the
- * length of the file, which is file_len; out[2]: the count of chunk headers met. Makes no record. Fewer
- * than three places: CAF_NO_ROOM, and stores and writes nothing. */
+/* Places in the array that caf_resume_counted fills. */
+enum caf_resume_counted_place {
+    CAF_RESUME_COUNTED_STORES = 0,   /* stores done, 0 if refused */
+    CAF_RESUME_COUNTED_FILE_LEN = 1, /* file_len, as it was given */
+    CAF_RESUME_COUNTED_CHUNKS = 2,   /* chunk headers met */
+    CAF_RESUME_COUNTED_PLACES = 3
+};
+
+/* The first n stores of a resume, or all eight. Makes no record. Done and refused: writes out[0..2]; a
+ * refused one stores nothing in the buffer. With fewer than CAF_RESUME_COUNTED_PLACES places:
+ * CAF_NO_ROOM, and stores and writes nothing. */
 uint32_t caf_resume_counted(uint8_t *buf, size_t buf_len, uint64_t file_len, uint64_t n,
                             uint64_t *out, size_t out_len);
 

@@ -125,6 +125,102 @@ static void packets(void) {
     }
 }
 
+enum { FILM = 98, SIZE_FIELD = 80 };
+
+/* A resume of the first len bytes of a buffer. Where it is refused nothing is stored, and the record is a fresh one. */
+static uint32_t resume_on(struct lent *at, uint64_t len, size_t record_len, size_t places) {
+    uint64_t *record = copy_of(at->record, record_len * sizeof *record), *chunks = copy_of(at->out, places * sizeof *chunks);
+    uint8_t *buf = copy_of(at->buf, ROOM);
+    uint32_t number = caf_resume(buf, ROOM, len, record, record_len, chunks, places);
+    struct lent untouched;
+
+    fresh(&untouched);
+    if (record_len != CAF_RECORD || places == 0) {
+        HOLDS(memcmp(record, at->record, record_len * sizeof *record) == 0);
+        HOLDS(memcmp(chunks, at->out, places * sizeof *chunks) == 0);
+    } else if (number != CAF_DONE) {
+        HOLDS(memcmp(record, untouched.record, sizeof untouched.record) == 0);
+    }
+    if (number != CAF_DONE)
+        HOLDS(memcmp(buf, at->buf, ROOM) == 0);
+    else
+        memcpy(at->record, record, sizeof at->record);
+    memcpy(at->buf, buf, ROOM);
+    memcpy(at->out, chunks, places * sizeof *chunks);
+    free(record);
+    free(chunks);
+    free(buf);
+    return number;
+}
+
+/* The first n stores of the same. What they have to make of the buffer is given. */
+static uint32_t resume_counted_on(const struct lent *at, uint64_t len, uint64_t n, const uint8_t *want, uint64_t *out, size_t places) {
+    uint8_t *buf = copy_of(at->buf, ROOM);
+    uint64_t *told = copy_of(out, places * sizeof *told);
+    uint32_t number = caf_resume_counted(buf, ROOM, len, n, told, places);
+
+    HOLDS(memcmp(buf, want, ROOM) == 0);
+    memcpy(out, told, places * sizeof *told);
+    free(buf);
+    free(told);
+    return number;
+}
+
+/* The counted form of a film that can be resumed, cut after every number of stores. Read strictly, what is left is the film as it was, then
+ * a size that is none, then an open film. */
+static void cut_resumes(const struct lent *film, uint32_t before, uint32_t within) {
+    uint64_t out[CAF_RESUME_COUNTED_PLACES], found[CAF_STRICT_PLACES];
+    uint8_t want[ROOM];
+    uint64_t n;
+
+    memcpy(want, film->buf, ROOM);
+    for (n = 0; n <= 9; n++) {
+        HOLDS(resume_counted_on(film, FILM, n, want, out, CAF_RESUME_COUNTED_PLACES) == CAF_DONE);
+        HOLDS(out[CAF_RESUME_COUNTED_STORES] == (n < 8 ? n : 8));
+        HOLDS(out[CAF_RESUME_COUNTED_FILE_LEN] == FILM && out[CAF_RESUME_COUNTED_CHUNKS] == 3);
+        HOLDS(caf_read_strict(want, FILM, found, CAF_STRICT_PLACES) == (n == 0 ? before : n < 8 ? within : CAF_DONE));
+        if (n < 8)
+            want[SIZE_FIELD + n] = 0xFF;
+    }
+    HOLDS(found[CAF_STRICT_OPEN] == 1 && found[CAF_STRICT_PAYLOAD] == 6);
+}
+
+/* The example's film resumed, with every number of stores; refused; without room. Then it grows by five bytes and is finished. */
+static void resumes(void) {
+    struct lent film, at;
+    uint64_t out[CAF_RESUME_COUNTED_PLACES] = {77, 77, 77}, found[CAF_STRICT_PLACES];
+
+    fresh(&film);
+    HOLDS(call_on(configure, &film, CAF_RECORD, ROOM) == CAF_DONE && call_on(caf_write_header, &film, CAF_RECORD, ROOM) == CAF_DONE);
+    HOLDS(call_on(packed, &film, CAF_RECORD, ROOM) == CAF_DONE && call_on(caf_finish, &film, CAF_RECORD, ROOM) == CAF_DONE);
+    cut_resumes(&film, CAF_DONE, CAF_BAD_SIZE);
+
+    HOLDS(resume_counted_on(&film, FILM, 8, film.buf, out, CAF_RESUME_COUNTED_PLACES - 1) == CAF_NO_ROOM);
+    HOLDS(out[0] == 77 && out[1] == 77);
+    HOLDS(resume_counted_on(&film, 50, 8, film.buf, out, CAF_RESUME_COUNTED_PLACES) == CAF_CUT_SHORT);
+    HOLDS(out[CAF_RESUME_COUNTED_STORES] == 0 && out[CAF_RESUME_COUNTED_FILE_LEN] == 50 && out[CAF_RESUME_COUNTED_CHUNKS] == 1);
+    HOLDS(resume_counted_on(&film, ROOM + 1, 8, film.buf, out, CAF_RESUME_COUNTED_PLACES) == CAF_BAD_WRITER);
+    HOLDS(out[CAF_RESUME_COUNTED_STORES] == 0 && out[CAF_RESUME_COUNTED_FILE_LEN] == ROOM + 1 && out[CAF_RESUME_COUNTED_CHUNKS] == 0);
+
+    at = film;
+    HOLDS(resume_on(&at, FILM, CAF_RECORD - 1, 1) == CAF_BAD_WRITER);
+    HOLDS(resume_on(&at, FILM, CAF_RECORD, 0) == CAF_NO_ROOM);
+    HOLDS(resume_on(&at, 50, CAF_RECORD, 1) == CAF_CUT_SHORT && at.out[0] == 1);
+    HOLDS(resume_on(&at, FILM, CAF_RECORD, 1) == CAF_DONE && at.out[0] == 3);
+    memset(film.buf + SIZE_FIELD, 0xFF, 8);
+    HOLDS(memcmp(at.buf, film.buf, ROOM) == 0);
+    /* the field holds -1 already: the same eight stores */
+    cut_resumes(&film, CAF_DONE, CAF_DONE);
+    HOLDS(resume_on(&at, FILM, CAF_RECORD, 1) == CAF_DONE && memcmp(at.buf, film.buf, ROOM) == 0);
+
+    HOLDS(call_on(data, &at, CAF_RECORD, ROOM) == CAF_DONE);
+    HOLDS(caf_read_strict(at.buf, FILM + 5, found, CAF_STRICT_PLACES) == CAF_DONE);
+    HOLDS(found[CAF_STRICT_OPEN] == 1 && found[CAF_STRICT_PAYLOAD] == 11);
+    HOLDS(call_on(caf_finish, &at, CAF_RECORD, ROOM) == CAF_DONE);
+    HOLDS(caf_read_strict(at.buf, FILM + 5, found, CAF_STRICT_PLACES) == CAF_DONE);
+    HOLDS(found[CAF_STRICT_OPEN] == 0 && found[CAF_STRICT_PAYLOAD] == 11);
+}
+
 static void no_elements(void) {
     uint64_t out[CAF_STRICT_PLACES], chunks = 77, record[CAF_RECORD];
     size_t i;
@@ -141,6 +237,9 @@ static void no_elements(void) {
     HOLDS(caf_resume(NULL, 0, 1, record, CAF_RECORD, &chunks, 1) == CAF_BAD_WRITER && chunks == 0);
     HOLDS(caf_resume(NULL, 0, 0, NULL, 0, NULL, 0) == CAF_BAD_WRITER);
     HOLDS(caf_resume(NULL, 0, 0, record, CAF_RECORD, NULL, 0) == CAF_NO_ROOM);
+    HOLDS(caf_resume_counted(NULL, 0, 0, 8, out, CAF_RESUME_COUNTED_PLACES) == CAF_CUT_SHORT && out[0] == 0 && out[1] == 0 && out[2] == 0);
+    HOLDS(caf_resume_counted(NULL, 0, 1, 8, out, CAF_RESUME_COUNTED_PLACES) == CAF_BAD_WRITER && out[0] == 0 && out[1] == 1 && out[2] == 0);
+    HOLDS(caf_resume_counted(NULL, 0, 0, 8, NULL, 0) == CAF_NO_ROOM);
     HOLDS(caf_layout_for_labels(NULL, 0, out, 2) == CAF_DONE && out[CAF_LAYOUT_KIND] == 2 && out[CAF_LAYOUT_TAG] == 0);
     HOLDS(caf_layout_for_labels(stereo, 2, out, 2) == CAF_DONE && out[CAF_LAYOUT_KIND] == 1 && out[CAF_LAYOUT_TAG] == 6619138);
     HOLDS(caf_layout_for_labels(stereo, 2, out, 1) == CAF_NO_ROOM);
@@ -230,6 +329,7 @@ int main(void) {
     no_elements();
     example();
     packets();
+    resumes();
     random_records();
     feeders();
     printf("bad_input: %lu checks hold\n", checks);
