@@ -48,6 +48,11 @@ pub fn check_all(side: &dyn Side) {
     let last = side.run(&vec![twenty, Call::Header]).pop().expect("two answers");
     check("20 bits of two channels take six bytes", hex(&last.file[36..40]), "00000006".to_string());
 
+    let stereo = Call::Configure { rate: 48000, channels: 2, bits: 24, labels: vec![1, 2] };
+    let resumed = vec![stereo, Call::Header, Call::Data(vec![7]), Call::Finish, Call::Resume, Call::Data(vec![8])];
+    let last = side.run(&resumed).pop().expect("six answers");
+    check("a resumed film is open", hex(&last.file[80..]), "ffffffffffffffff000000000708".to_string());
+
     let bare = Found { format: None, little: false, size_position: 12, data_start: 24 };
     let audio = [HEADS[0], &chunk(b"data", -1, &[0; 4])].concat();
     check("audio alone", side.parse(&audio), Reading { number: DONE, chunks: 1, found: Some(bare) });

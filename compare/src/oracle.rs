@@ -3,8 +3,9 @@
 //! The watching stops the text at the two places that 01 leaves out of the comparison and where it would go on
 //! (a skip of 2^63 or more, which it takes for a step back and may repeat for ever; a rate that is no number),
 //! and counts the chunk headers that it reads. All of this is seen in the text's own reads and seeks:
-//! there is no second parser here. One number is not the text's own: where a setting's bits are no whole bytes, the
-//! header's bytes per packet are 02's (T-02), so that our number is held to it and every other byte to the text.
+//! there is no second parser here. Two numbers are not the text's own: where a setting's bits are no whole bytes, the
+//! header's bytes per packet are 02's (T-02); and after a resume the data size is -1 (T-04), until the text finishes the
+//! file. So ours are held to these, and every other byte to the text.
 
 use std::cell::RefCell;
 use std::io::{self, Cursor, Error, ErrorKind, Read, Seek, SeekFrom, Write};
@@ -85,12 +86,18 @@ impl Shared {
         self.0.borrow().cursor.get_ref().clone()
     }
 
-    /// Puts other bytes per packet into the header, as far as it was stored.
-    fn put_packet(&self, bytes: u32) {
+    /// Puts other bytes into the file, as far as it reaches.
+    fn put(&self, at: usize, bytes: &[u8]) {
         let file = &mut *self.0.borrow_mut();
-        for (place, byte) in file.cursor.get_mut().iter_mut().skip(PACKET_PLACE).zip(bytes.to_be_bytes()) {
+        for (place, &byte) in file.cursor.get_mut().iter_mut().skip(at).zip(bytes) {
             *place = byte;
         }
+    }
+
+    /// Puts -1 into the size field, where the text finds it.
+    fn put_open(&self) {
+        let info = caf::parse_caf_file(Cursor::new(self.file())).expect("a file that was resumed");
+        self.put(info.data_size_position as usize, &[0xff; 8]);
     }
 
     fn reading(&self, parsed: io::Result<()>) -> (u32, u64) {
@@ -204,8 +211,8 @@ impl Session {
             Some(number) => (number, 0),
             None => self.call(call),
         };
+        self.past.answered(call, number);
         if number == DONE {
-            self.past.after(call);
             self.round_up(call);
         }
         let stats = self.writer.as_ref().map(|writer| writer.stats());
@@ -223,7 +230,7 @@ impl Session {
             self.packet = call.rounded_up();
         }
         if let Some(bytes) = self.packet.filter(|_| call.is_header()) {
-            self.disk.put_packet(bytes);
+            self.disk.put(PACKET_PLACE, &bytes.to_be_bytes());
         }
     }
 
@@ -254,6 +261,7 @@ impl Session {
         let answer = disk.reading(resumed);
         *self = match writer {
             Some(writer) => {
+                disk.put_open();
                 Session { disk, writer: Some(mem::ManuallyDrop::new(writer)), past: self.past, packet: None }
             }
             None => Session::new(),

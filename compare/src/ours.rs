@@ -174,12 +174,7 @@ impl Ours {
             finished: pipe.number(1) == 1,
             file: pipe.list(),
         };
-        match (step.number, call) {
-            (DONE, _) => past.after(call),
-            // a refused resume leaves a fresh writer
-            (_, Call::Resume | Call::ResumeFrom(_)) => *past = Past::default(),
-            _ => {}
-        }
+        past.answered(call, step.number);
         *file = step.file.clone();
         step
     }

@@ -44,6 +44,8 @@ pub struct Past {
     pub header: bool,
     pub finished: bool,
     pub no_writer: bool,
+    /// a resume put -1 into the size field (02, T-04), and no finish has stored a size since
+    pub reopened: bool,
 }
 
 impl Past {
@@ -71,13 +73,21 @@ impl Past {
         }
     }
 
-    /// How the past grows by a call that was not refused.
-    pub fn after(&mut self, call: &Call) {
+    /// How the past grows by a call and its number. A refused resume leaves a fresh writer, any other refusal nothing.
+    pub fn answered(&mut self, call: &Call, number: u32) {
+        match call {
+            _ if number == DONE => self.after(call),
+            Call::Resume | Call::ResumeFrom(_) => *self = Past::default(),
+            _ => {}
+        }
+    }
+
+    fn after(&mut self, call: &Call) {
         match call {
             Call::Header => self.header = true,
-            Call::Finish => self.finished = true,
-            Call::Resume | Call::ResumeFrom(_) => *self = Past { header: true, ..Past::default() },
-            Call::Cut(..) => *self = Past { no_writer: true, ..Past::default() },
+            Call::Finish => *self = Past { finished: true, reopened: false, ..*self },
+            Call::Resume | Call::ResumeFrom(_) => *self = Past { header: true, reopened: true, ..Past::default() },
+            Call::Cut(..) => *self = Past { no_writer: true, reopened: self.reopened, ..Past::default() },
             _ => {}
         }
     }

@@ -177,7 +177,26 @@ fn writing() {
         "header and finish over 70 old bytes",
         format!("file {}, size field {}, last bytes {}", file.len(), hex(&file[56..64]), hex(&file[66..])),
     );
+    reopened();
     full_disk();
+}
+
+/// A host that appends to a finished film and dies: what the size field says.
+fn reopened() {
+    let finished = file_of(|writer| {
+        stereo(writer);
+        writer.write_data(&[1]).expect("a byte");
+        writer.finish().expect("finish");
+    });
+    let file = file_after(finished, |memory| {
+        let writer = CAFWriter::from_existing_file(memory).expect("a resumed writer");
+        let mut writer = mem::ManuallyDrop::new(writer);
+        writer.write_data(&[2]).expect("one byte more");
+    });
+    say(
+        "one byte, finish, resume, one byte, no finish (ours: ffffffffffffffff)",
+        format!("file {}, data size field {}", file.len(), hex(&file[56..64])),
+    );
 }
 
 /// A data call that fails half way: the bytes that arrived are in the file and not in the count.

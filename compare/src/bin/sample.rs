@@ -10,7 +10,7 @@ use harness::known;
 use harness::names;
 use harness::oracle::Rust;
 use harness::random::Random;
-use harness::script::Script;
+use harness::script::{Call, Past, Script};
 use harness::scripts;
 
 /// Of the sample that is kept.
@@ -53,13 +53,28 @@ impl Sample {
         }
     }
 
-    fn script(&mut self, script: Script) {
+    fn script(&mut self, mut script: Script) {
+        script.extend(ending(&script));
         let steps = Rust.run(&script);
         let inside = steps.iter().all(|step| !outside(step.number));
         let own = script.iter().all(|call| call.rounded_up().is_none());
         if inside && own && !script.is_empty() {
             self.keep(encode::script(&script, &steps));
         }
+    }
+}
+
+/// The calls that a script wants so that its last file is the text's own. From a resume to the next finish the size
+/// field is not.
+fn ending(script: &Script) -> Script {
+    let mut past = Past::default();
+    for (call, step) in script.iter().zip(Rust.run(script)) {
+        past.answered(call, step.number);
+    }
+    match (past.reopened, past.no_writer) {
+        (false, _) => vec![],
+        (true, false) => vec![Call::Finish],
+        (true, true) => vec![Call::Resume, Call::Finish],
     }
 }
 

@@ -25,6 +25,8 @@ enum Lie {
     SecondFinish,
     /// bytes per packet rounded down for bits that are no whole bytes, as the text has it
     RoundedDown,
+    /// the old size is kept after a resume, as the text has it
+    OldSize,
 }
 
 struct Liar(Lie);
@@ -61,6 +63,7 @@ impl Side for Liar {
     fn run(&self, script: &Script) -> Vec<Step> {
         let mut steps = Rust.run(script);
         let mut past = 0;
+        let mut file = Vec::new();
         for (call, step) in script.iter().zip(&mut steps) {
             match (self.0, call) {
                 (Lie::CountAfterResume, Call::Resume) if step.number == DONE => step.data_count = past,
@@ -74,8 +77,10 @@ impl Side for Liar {
                 (Lie::RoundedDown, Call::Header) if step.number == DONE && step.file[51] == 20 => {
                     step.file[39] = 2 * step.file[47];
                 }
+                (Lie::OldSize, Call::Resume) if step.number == DONE => step.file = file,
                 _ => {}
             }
+            file = step.file.clone();
             past = if step.finished { u64::MAX } else { step.data_count };
         }
         steps
@@ -97,6 +102,7 @@ fn main() {
         Lie::LowByteFirst,
         Lie::SecondFinish,
         Lie::RoundedDown,
+        Lie::OldSize,
     ] {
         match Comparison::new(&Liar(lie), &Rust).all(1, 200) {
             Ok(()) => panic!("{lie:?} was not found"),
