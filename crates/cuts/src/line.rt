@@ -1,10 +1,8 @@
-// One cut, on one line.
+// One film, on one line.
+use crate::film::Film;
 use crate::film::ROOM;
-use crate::film::before_last;
-use crate::film::brings_data;
-use crate::film::cut_last;
-use crate::film::uncut;
-use crate::film::until_last;
+use crate::film::SESSIONS;
+use crate::session::make;
 use answers::DONE;
 use reading::PlainAnswer;
 use reading::StrictAnswer;
@@ -15,9 +13,41 @@ use show::newline;
 use show::word;
 use writer::CAFWriter;
 
-fn field(name: &[u8], v: u64) {
-    word(name);
+fn number(v: u64) {
+    word(b" ");
     decimal(v);
+}
+
+fn show_session(last: u32, n: usize) {
+    number(last as u64);
+    word(b"/");
+    decimal(n as u64);
+}
+
+fn show_film(film: Film) {
+    let lasts = film.lasts;
+    let stores = film.stores;
+    decimal(film.layout as u64);
+    for session in 0..SESSIONS {
+        if session < film.count {
+            show_session(lasts[session], stores[session]);
+        }
+    }
+}
+
+fn fold(digest: u64, byte: u8) -> u64 {
+    digest % 0x1_0000_0000 * 1_000_003 + byte as u64
+}
+
+// Every byte counts, and its place.
+fn digest(file: &[u8]) -> u64 {
+    let mut d: u64 = 0;
+    let mut i: usize = 0;
+    while i < file.len() {
+        d = fold(d, file[i]);
+        i += 1;
+    }
+    d % 0x1_0000_0000
 }
 
 fn plain_number(file: &[u8]) -> u32 {
@@ -28,95 +58,70 @@ fn plain_number(file: &[u8]) -> u32 {
     }
 }
 
-// The number of the strict reading, and what it finds.
-fn show_strict(file: &[u8]) {
-    let read = read_strict(file);
-    match read {
-        StrictAnswer::Rejected(number, _) => field(b" strict ", number as u64),
+fn show_answer(answer: StrictAnswer) {
+    match answer {
+        StrictAnswer::Rejected(refusal, _) => number(refusal as u64),
         StrictAnswer::Accepted(info, _) => {
-            field(b" strict 0 payload ", info.payload as u64);
+            number(DONE as u64);
             if info.open {
                 word(b" open");
             } else {
                 word(b" closed");
             }
+            number(info.payload as u64);
         }
     }
 }
 
-// The first n bytes of a buffer, or all of them.
-fn show_file(buf: &[u8], n: usize) {
+// Of the first n bytes of a buffer: their digest, and their two readings.
+fn show_digest(buf: &[u8], n: usize) {
     if n <= buf.len() {
-        field(b" plain ", plain_number(&buf[..n]) as u64);
-        show_strict(&buf[..n]);
+        number(digest(&buf[..n]));
     }
 }
 
-fn same_files(a: &[u8], b: &[u8], n: usize, m: usize) -> bool {
-    if a.len() < n {
-        return false;
+fn show_plain(buf: &[u8], n: usize) {
+    word(b" |");
+    if n <= buf.len() {
+        number(plain_number(&buf[..n]) as u64);
     }
-    if b.len() < m {
-        return false;
-    }
-    check::same(&a[..n], &b[..m])
 }
 
-// Resume and finish, and whether that gives the film that was never cut.
-fn show_recovery(buf: &mut [u8], len: usize, layout: u32, arrived: usize) {
+fn show_strict(buf: &[u8], n: usize) {
+    word(b" |");
+    if n <= buf.len() {
+        show_answer(read_strict(&buf[..n]));
+    }
+}
+
+// A resume, and where it is not refused a finish.
+fn show_recovery(buf: &mut [u8], len: usize) {
+    word(b" |");
     let resumed = CAFWriter::from_existing_file(buf, len);
-    field(b" resume ", resumed.number as u64);
+    number(resumed.number as u64);
     if resumed.number != DONE {
+        show_digest(buf, len);
         return;
     }
-    let back = resumed.writer;
-    let closed = back.finish(buf);
-    field(b" finish ", closed.number as u64);
-    let done = closed.writer;
-    show_file(buf, done.file_len);
-    let mut space = [0u8; ROOM];
-    let other: &mut [u8] = &mut space;
-    let whole = uncut(layout, arrived, other);
-    if same_files(buf, other, done.file_len, whole) {
-        word(b" same");
-    } else {
-        word(b" differs");
-    }
+    let closed = resumed.writer.finish(buf);
+    number(closed.number as u64);
+    let len = closed.writer.file_len;
+    show_digest(buf, len);
+    show_strict(buf, len);
 }
 
-// The data that arrived: those before the last call, and of its own as many as it stored.
-fn arrived_with(last: u32, stores: usize) -> usize {
-    let before = before_last(last);
-    if ROOM < stores {
-        return before;
-    }
-    if brings_data(last) {
-        return before + stores;
-    }
-    before
-}
-
-// How many stores the last call of a film has.
-pub(crate) fn stores_of(layout: u32, last: u32) -> usize {
+pub(crate) fn show(film: Film) {
     let mut space = [0u8; ROOM];
     let buf: &mut [u8] = &mut space;
-    let w = until_last(layout, last, buf);
-    let all = cut_last(w, last, buf, ROOM);
-    all.stores
-}
-
-pub(crate) fn show(layout: u32, last: u32, n: usize) {
-    let mut space = [0u8; ROOM];
-    let buf: &mut [u8] = &mut space;
-    let w = until_last(layout, last, buf);
-    let cut = cut_last(w, last, buf, n);
-    field(b"layout ", layout as u64);
-    field(b" last ", last as u64);
-    field(b" cut ", n as u64);
-    field(b" number ", cut.number as u64);
-    field(b" stores ", cut.stores as u64);
-    field(b" length ", cut.file_len as u64);
-    show_file(buf, cut.file_len);
-    show_recovery(buf, cut.file_len, layout, arrived_with(last, cut.stores));
+    let left = make(film, buf);
+    show_film(film);
+    word(b" |");
+    number(left.number as u64);
+    number(left.stores as u64);
+    number(left.file_len as u64);
+    show_digest(buf, left.file_len);
+    show_plain(buf, left.file_len);
+    show_strict(buf, left.file_len);
+    show_recovery(buf, left.file_len);
     newline();
 }

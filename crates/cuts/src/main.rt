@@ -1,18 +1,32 @@
-// Cuts the last call of small films at every store, by the counted forms; reads what is left, resumes it, finishes it and compares it
-// with the film of a writer that was never cut. A line for each cut; tools/check_cuts.py holds the lines to what demand 3 says.
+// Films in one, two and three sessions, the first begun by a fresh writer, the others by a resume. Each session's last call is cut by its
+// counted form; what is left at the end is read, resumed and finished. A line for each film:
+//
+//   LAYOUT LAST/STORES .. | NUMBER STORES LENGTH DIGEST | PLAIN | STRICT | RESUME FINISH DIGEST | STRICT
+//
+// - its layout, and for each session the last call and how many of its stores were asked for;
+// - what the last of these calls answered, the length of the file that it left, and a digest of its bytes;
+// - the numbers of the two readings of it, and what the strict one finds;
+// - the numbers of a resume and a finish, a digest of what they make of it, and its strict reading. Where the resume is refused there is
+//   no finish, and the digest is that of the file as it then stands.
+//
+// tools/check_cuts.py makes every line anew and holds it to demand 3.
 mod film;
 mod line;
+mod session;
 
+use film::Film;
 use film::LAST_CALLS;
 use film::LAYOUTS;
 use film::ROOM;
+use film::started;
+use film::then;
 
-// Every cut of a film, from no store up to one more than the call has.
-fn cut_everywhere(layout: u32, last: u32) {
-    let stores = line::stores_of(layout, last);
+// Every cut of one more session with this last call, from no store up to one more than it has.
+fn cut_everywhere(film: Film, last: u32) {
+    let stores = session::stores_of(film, last);
     let mut n: usize = 0;
     while n < ROOM {
-        line::show(layout, last, n);
+        line::show(then(film, last, n));
         if stores < n {
             return;
         }
@@ -20,10 +34,53 @@ fn cut_everywhere(layout: u32, last: u32) {
     }
 }
 
-fn main() {
-    for layout in 0..LAYOUTS {
-        for last in 0..LAST_CALLS {
-            cut_everywhere(layout, last);
-        }
+// One more session, with every last call and every cut.
+fn one_more(film: Film) {
+    for last in 0..LAST_CALLS {
+        cut_everywhere(film, last);
     }
+}
+
+// Two more sessions: the first with this last call and every cut, the other with every last call and every cut.
+fn two_more(film: Film, last: u32) {
+    let stores = session::stores_of(film, last);
+    let mut n: usize = 0;
+    while n < ROOM {
+        one_more(then(film, last, n));
+        if stores <= n {
+            return;
+        }
+        n += 1;
+    }
+}
+
+fn one_session() {
+    for layout in 0..LAYOUTS {
+        one_more(started(layout));
+    }
+}
+
+// After a header that is cut, at its first and at its last store; after data that are cut; after a finish that is cut.
+fn two_sessions() {
+    let film = started(0);
+    one_more(then(film, 0, 1));
+    one_more(then(film, 0, 67));
+    two_more(film, 1);
+    two_more(film, 2);
+    two_more(film, 4);
+    two_more(film, 6);
+}
+
+// After a finished film: a resume that is cut, or data, or a finish, and then one more session.
+fn three_sessions() {
+    let film = then(started(2), 4, 8);
+    two_more(film, 0);
+    two_more(film, 2);
+    two_more(film, 5);
+}
+
+fn main() {
+    one_session();
+    two_sessions();
+    three_sessions();
 }

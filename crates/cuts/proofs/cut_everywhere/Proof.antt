@@ -1,19 +1,22 @@
-use Prim.Native.Nat.{_≤_, _-_}
 use borrow.Author.Needs.{needs}
+use Prim.Native.Nat.{_≤_, _-_}
 use Rattle.cuts.proofs.cut_everywhere.Statement.{statement}
 use Rattle.cuts.proofs.cut_everywhere.Tie as tie
 
 abbrev Inv-loop : tie.InvT-loop
-Inv-loop layout last stores n₀ n = n ≤ 384
+Inv-loop film last stores n₀ n = n ≤ 640
 
 abbrev μ-loop : tie.MeasureT-loop
-μ-loop layout last stores n₀ n = 384 - n
+μ-loop film last stores n₀ n = 640 - n
 
 stores-of-requires : tie.Need-stores-of-requires Inv-loop μ-loop
 stores-of-requires c κs = search needs
 
 loop-holds : tie.Need-loop-holds Inv-loop μ-loop
 loop-holds c = search needs
+
+then-requires : tie.Need-then-requires Inv-loop μ-loop
+then-requires c κs = search needs
 
 show-requires : tie.Need-show-requires Inv-loop μ-loop
 show-requires c κs = search needs
@@ -41,6 +44,7 @@ cut-everywhere-spec =
     μ-loop
     stores-of-requires
     loop-holds
+    then-requires
     show-requires
     returns
     add-n

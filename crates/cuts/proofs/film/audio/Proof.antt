@@ -1,28 +1,22 @@
+use borrow.Author.Needs.{needs}
 use Prim.Native.Nat.{_≤_, _-_}
 use mathlib.Core.Path.{_≡_}
 use native.Mathlib.Omega.{arith}
 use lib.ListN.{length, length-set}
-use borrow.Author.Needs.{needs}
 use Rattle.cuts.proofs.film.audio.Statement.{statement}
 use Rattle.cuts.proofs.film.audio.Tie as tie
 
 abbrev Inv-loop : tie.InvT-loop
-Inv-loop out₀ i₀ out i = (i ≤ 251) × (length out ≡ 251)
+Inv-loop session out₀ i₀ out i = (i ≤ 251) × (length out ≡ 251)
 
 abbrev μ-loop : tie.MeasureT-loop
-μ-loop out₀ i₀ out i = 251 - i
+μ-loop session out₀ i₀ out i = 251 - i
 
 loop-holds : tie.Need-loop-holds Inv-loop μ-loop
 loop-holds c = search needs
 
-mul-out : tie.Need-mul-out Inv-loop μ-loop
-mul-out c = search needs
-
-add-out : tie.Need-add-out Inv-loop μ-loop
-add-out c = search needs
-
-cast-out : tie.Need-cast-out Inv-loop μ-loop
-cast-out c = search needs
+audio-byte-requires : tie.Need-audio-byte-requires Inv-loop μ-loop
+audio-byte-requires c κs = search needs
 
 array-write-out : tie.Need-array-write-out Inv-loop μ-loop
 array-write-out c = omega arith
@@ -46,9 +40,7 @@ audio-spec =
     Inv-loop
     μ-loop
     loop-holds
-    mul-out
-    add-out
-    cast-out
+    audio-byte-requires
     array-write-out
     add-i
     loop-less

@@ -1,10 +1,10 @@
-use mathlib.Core.Path.{_≡_, sym}
-use native.Mathlib.Omega.{arith}
-use lib.ListN.{length}
 use lib.Seq.{length-take-le}
+use lib.ListN.{length}
+use native.Mathlib.Omega.{arith}
+use mathlib.Core.Path.{_≡_, sym}
 use borrow.Author.Needs.{needs}
-use Rattle.cuts.proofs.film.with_bytes.Statement.{statement}
-use Rattle.cuts.proofs.film.with_bytes.Tie as tie
+use Rattle.cuts.proofs.session.with_bytes.Statement.{statement}
+use Rattle.cuts.proofs.session.with_bytes.Tie as tie
 
 audio-requires : tie.Need-audio-requires
 audio-requires c κs = search needs

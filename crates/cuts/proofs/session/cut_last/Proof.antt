@@ -1,19 +1,16 @@
-use mathlib.Core.Path.{_≡_, sym}
-use native.Mathlib.Omega.{arith}
-use lib.ListN.{length}
 use lib.Seq.{length-take-le}
+use lib.ListN.{length}
+use native.Mathlib.Omega.{arith}
+use mathlib.Core.Path.{_≡_, sym}
 use borrow.Author.Needs.{needs}
-use Rattle.cuts.proofs.film.cut_last.Statement.{statement}
-use Rattle.cuts.proofs.film.cut_last.Tie as tie
+use Rattle.cuts.proofs.session.cut_last.Statement.{statement}
+use Rattle.cuts.proofs.session.cut_last.Tie as tie
 
 audio-requires : tie.Need-audio-requires
 audio-requires c κs = search needs
 
 samples-requires : tie.Need-samples-requires
 samples-requires c κs = search needs
-
-write-header-counted-requires : tie.Need-write-header-counted-requires
-write-header-counted-requires c κs = search needs
 
 array-share-prefix-all : tie.Need-array-share-prefix-all
 array-share-prefix-all c = search needs
@@ -52,19 +49,12 @@ same-length-3 c = search needs
 returns-3 : tie.Need-returns-3
 returns-3 c = search needs
 
-same-length-4 : tie.Need-same-length-4
-same-length-4 c = search needs
-
-returns-4 : tie.Need-returns-4
-returns-4 c = search needs
-
 pub cut-last-spec : {M : Type 1} → statement M
 cut-last-spec =
     tie.close
     (tie.spec
     audio-requires
     samples-requires
-    write-header-counted-requires
     array-share-prefix-all
     slice-aggregate-write-data-counted
     write-data-counted-requires
@@ -76,6 +66,4 @@ cut-last-spec =
     same-length-2
     returns-2
     same-length-3
-    returns-3
-    same-length-4
-    returns-4)
+    returns-3)
