@@ -26,7 +26,7 @@ enum caf_number {
     CAF_BAD_VERSION = 6,
     CAF_BAD_DESC = 7,
     CAF_DATA_PAST_END = 8,
-    CAF_DATA_ENDS_EARLY = 9,
+    CAF_DATA_ENDS_EARLY = 9, /* no longer given */
     CAF_FINISHED = 10,
     CAF_NO_HEADER = 11,
     CAF_HEADER_ALREADY = 12,
@@ -39,7 +39,9 @@ enum caf_number {
     CAF_BAD_WRITER = 19,
     CAF_ODD_LENGTH = 20,
     CAF_TOO_LONG = 21,
-    CAF_BAD_LAYOUT = 22
+    CAF_BAD_LAYOUT = 22,
+    CAF_SECOND_DATA = 23,
+    CAF_TAIL_AFTER_DATA = 24
 };
 
 /* ---- the readings */
@@ -69,7 +71,7 @@ uint32_t caf_parse(const uint8_t *file, size_t file_len, uint64_t *out, size_t o
 
 /* Places in the array that caf_read_strict fills. */
 enum caf_strict_place {
-    CAF_STRICT_CHUNKS = 0, /* whole chunk headers met */
+    CAF_STRICT_CHUNKS = 0, /* whole chunk headers met, those after the data too */
     CAF_STRICT_RATE = 1,   /* the 64 bits of the rate, an IEEE 754 double */
     CAF_STRICT_FORMAT_ID = 2,
     CAF_STRICT_FLAGS = 3,
@@ -88,7 +90,11 @@ enum caf_strict_place {
 /* The strict reading of a file. It looks at chunk headers and at the body of `desc`, and at no other
  * byte of the file. Done: writes out[0..12]. Refused: writes out[CAF_STRICT_CHUNKS] and nothing
  * else. With fewer than CAF_STRICT_PLACES places: CAF_NO_ROOM, and writes nothing. It never writes
- * behind out[12], and not to the file. */
+ * behind out[12], and not to the file.
+ *
+ * Chunks may follow closed data. A closed file has some where
+ * out[CAF_STRICT_DATA_START] + out[CAF_STRICT_PAYLOAD] is below file_len; they are no payload. The
+ * size field alone says where the data end: one of 4 gives a payload of 0, whatever follows it. */
 uint32_t caf_read_strict(const uint8_t *file, size_t file_len, uint64_t *out, size_t out_len);
 
 /* ---- the strict reading of a film that comes in blocks
@@ -110,24 +116,25 @@ uint32_t caf_read_strict(const uint8_t *file, size_t file_len, uint64_t *out, si
  * named for tests. An array of another length, or one whose numbers no calls make, is an unsound
  * record: CAF_BAD_WRITER, and the array keeps its contents. */
 enum caf_feeder_place {
-    CAF_FEEDER_PHASE = 0,     /* 0 to 7: what is waited for; 7 after a refusal */
+    CAF_FEEDER_PHASE = 0,     /* 0 to 10: what is waited for; 7 after a refusal */
     CAF_FEEDER_RATE = 1,      /* the format, once it was read, in the order of caf_strict_place */
     CAF_FEEDER_FORMAT_ID = 2, /* this and the five behind it: 32 bits */
-    CAF_FEEDER_NUMBER = 8,    /* bytes of a body to come, the data chunk's size field, or the refusal */
-    CAF_FEEDER_START = 9,     /* where the data start */
-    CAF_FEEDER_COUNT = 10,    /* bytes held of a header or description that a block cut in two */
-    CAF_FEEDER_TOTAL = 11,    /* bytes fed */
-    CAF_FEEDER_CHUNKS = 12,   /* whole chunk headers met */
-    CAF_FEEDER_HELD = 13,     /* the bytes held, eight in a number */
-    CAF_FEEDER = 17
+    CAF_FEEDER_NUMBER = 8,    /* bytes of a body or of closed data to come, or the refusal */
+    CAF_FEEDER_SIZE = 9,      /* the size field of a data chunk, unless it is open */
+    CAF_FEEDER_START = 10,    /* where the data start */
+    CAF_FEEDER_COUNT = 11,    /* bytes held of a header or description that a block cut in two */
+    CAF_FEEDER_TOTAL = 12,    /* bytes fed */
+    CAF_FEEDER_CHUNKS = 13,   /* whole chunk headers met */
+    CAF_FEEDER_HELD = 14,     /* the bytes held, eight in a number */
+    CAF_FEEDER = 18
 };
 
-/* A record that no byte was fed. Writes feeder[0..16]. An array of another length: CAF_BAD_WRITER,
+/* A record that no byte was fed. Writes feeder[0..17]. An array of another length: CAF_BAD_WRITER,
  * and writes nothing. */
 uint32_t caf_feed_begin(uint64_t *feeder, size_t feeder_len);
 
 /* Feeds a block. Writes the next record, also where it gives a refusal: one that the bytes so far are
- * enough for (2, 4, 5, 6 or 7), or CAF_TOO_LONG for more than 2^63 - 1 bytes in all. After a refusal
+ * enough for (2, 4, 5, 6, 7 or 23), or CAF_TOO_LONG for more than 2^63 - 1 bytes in all. After a refusal
  * further blocks change nothing and give the same number. */
 uint32_t caf_feed(uint64_t *feeder, size_t feeder_len, const uint8_t *block, size_t block_len);
 
@@ -240,6 +247,11 @@ enum caf_record_place {
 /* A fresh record. Writes record[0..81]. An array of another length: CAF_BAD_WRITER, and writes
  * nothing. */
 uint32_t caf_new(uint64_t *record, size_t record_len);
+
+/* What can be resumed: a file that the plain reading finds, whose data go to its end. So a data size
+ * of -1 or any negative one, and one of r or more, where r counts the bytes from the edit count to the
+ * end of the file. 0 to 3: CAF_BAD_SIZE. 4 to r - 1: CAF_TAIL_AFTER_DATA, since what follows the data
+ * would be taken for audio. */
 
 /* Resumes the file that stands in the first file_len bytes of the buffer. Done: puts -1 back into the
  * data size field of the file, eight stores from the most significant byte, also where it holds -1

@@ -3,11 +3,14 @@
  *   meter FILE..
  *
  * A line for each file: its number, the chunk headers met, payload bytes, frames, open or closed, and
- * its name. A refused file has its number and name and bills nothing. The last line is the total, in
- * 64 bits. A file that can't be read is told on standard error and the others are still metered.
+ * its name. A refused file has its number and name and bills nothing. Nor does a closed file without
+ * payload where more bytes follow: a writer that was killed leaves a size field that says no samples
+ * came, and its samples, if they are silence, read as chunks. It is reported on standard error. The last
+ * line is the total, in 64 bits. A file that can't be read is reported on standard error too, and the
+ * others are still metered.
  *
- * Exit status: 0 every file was billed; 1 some were refused or could not be read; 2 no file was named,
- * or the total would not fit. */
+ * Exit status: 0 every file was billed; 1 some were not, or could not be read; 2 no file was named, or
+ * the total would not fit. */
 #define _FILE_OFFSET_BITS 64
 #include <errno.h>
 #include <fcntl.h>
@@ -44,6 +47,13 @@ static void meter(const char *name, const uint8_t *file, size_t len, struct bill
 
     if (number != CAF_DONE) {
         printf("number %" PRIu32 " chunks %" PRIu64 " refused %s\n", number, out[CAF_STRICT_CHUNKS], name);
+        bill->status |= 1;
+        return;
+    }
+    if (!out[CAF_STRICT_OPEN] && out[CAF_STRICT_PAYLOAD] == 0 && out[CAF_STRICT_DATA_START] < len) {
+        printf("number 0 chunks %" PRIu64 " unbilled %s\n", out[CAF_STRICT_CHUNKS], name);
+        fprintf(stderr, "meter: %s: no payload by its size field, but %" PRIu64 " bytes follow the data\n", name,
+                (uint64_t)len - out[CAF_STRICT_DATA_START]);
         bill->status |= 1;
         return;
     }

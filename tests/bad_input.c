@@ -308,13 +308,13 @@ static void feeders(void) {
         if (round % 2)
             for (k = 0; k < CAF_FEEDER; k++)
                 feeder[k] = next() >> (next() % 64);
-        feeder[CAF_FEEDER_PHASE] = next() % 9;
+        feeder[CAF_FEEDER_PHASE] = next() % 12;
         feeder[next() % CAF_FEEDER] = next() >> (next() % 64);
         len = next() % 4 ? CAF_FEEDER : next() % (CAF_FEEDER + 1);
         made = copy_of(feeder, len * sizeof *made);
         kept = copy_of(feeder, len * sizeof *kept);
         number = caf_feed(made, len, front, next() % 21);
-        HOLDS(number <= CAF_TOO_LONG);
+        HOLDS(number <= CAF_SECOND_DATA);
         if (len != CAF_FEEDER)
             HOLDS(number == CAF_BAD_WRITER);
         if (number == CAF_BAD_WRITER)

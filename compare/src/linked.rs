@@ -66,7 +66,7 @@ pub fn pack(samples: &[i32], little: bool, out: &mut [u8]) -> u32 {
     unsafe { caf_pack_24(samples.as_ptr(), samples.len(), little, out.as_mut_ptr(), out.len()) }
 }
 
-const FEEDER: usize = 17;
+const FEEDER: usize = 18;
 
 /// A feeding record as a caller in C keeps it.
 pub struct Feeder([u64; FEEDER]);

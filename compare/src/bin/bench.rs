@@ -77,14 +77,50 @@ fn readings(what: &str, file: &[u8]) {
     race(&format!("strict reading, {what}"), TIMES, vec![("ours", Box::new(strict)), ("Rust", Box::new(rust))]);
 }
 
+fn front() -> Vec<u8> {
+    [HEADS[0], &chunk(b"desc", 32, &format_body(48000f64.to_bits(), [0; 6]))].concat()
+}
+
+fn free_chunks(count: usize) -> Vec<u8> {
+    chunk(b"free", 4, &[0; 4]).repeat(count)
+}
+
 fn many_chunks(count: usize) -> Vec<u8> {
-    let format = chunk(b"desc", 32, &format_body(48000f64.to_bits(), [0; 6]));
-    let mut file = [HEADS[0], &format].concat();
-    for _ in 0..count {
-        file.extend(chunk(b"free", 4, &[0; 4]));
-    }
-    file.extend(chunk(b"data", -1, &[0; 4]));
-    file
+    [front(), free_chunks(count), chunk(b"data", -1, &[0; 4])].concat()
+}
+
+/// The same chunks after closed data.
+fn many_after(count: usize) -> Vec<u8> {
+    [front(), chunk(b"data", 4, &[0; 4]), free_chunks(count)].concat()
+}
+
+/// What chunks after the data cost, which the Rust does not read, beside as many before them.
+fn tails(count: usize) {
+    const TIMES: usize = 2_000;
+    let (tailed, leading) = (many_after(count), many_chunks(count));
+    let reading = |file: &[u8]| {
+        for _ in 0..TIMES {
+            let (number, found) = black_box(linked::strict(black_box(file)));
+            assert_eq!((number, found[0]), (0, count as u64 + 2));
+        }
+    };
+    let fed = || {
+        for _ in 0..TIMES {
+            let mut feeder = Feeder::new();
+            assert_eq!(feeder.feed(black_box(&tailed)), 0);
+            assert_eq!(feeder.end().1[0], count as u64 + 2);
+        }
+    };
+    race(
+        &format!("strict reading, {count} chunks after the data, a chunk"),
+        TIMES * count,
+        vec![("ours", Box::new(|| reading(&tailed))), ("as many before them", Box::new(|| reading(&leading)))],
+    );
+    race(
+        &format!("{count} chunks after the data in one block, a chunk"),
+        TIMES * count,
+        vec![("ours", Box::new(fed)), ("strict reading", Box::new(|| reading(&tailed)))],
+    );
 }
 
 fn region() -> Vec<u8> {
@@ -302,6 +338,7 @@ fn main() {
     let example = Rust.run(&known::example_script()).pop().expect("a file").file;
     readings("98 bytes, 3 chunks", &example);
     readings("1000 chunks", &many_chunks(998));
+    tails(1000);
     packing(false);
     packing(true);
     for size in [4 << 10, 64 << 10, 1 << 20] {

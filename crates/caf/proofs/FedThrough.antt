@@ -17,7 +17,9 @@ use Rattle.feeding.specs.Record.{isByBytes, fresh, sound}
 use Rattle.feeding.specs.Feed.{numberAt, feedBytes, feed, feedAll}
 use Rattle.feeding.specs.End.{end}
 use Rattle.feeding.specs.declared.Phase.{Phase}
-use Rattle.feeding.specs.declared.Phase.the-variants.{FileHeader, FirstHeader, Desc, Header, Skipping, Edit, InData, Refused}
+use Rattle.feeding.specs.declared.Phase.the-variants.{FileHeader, FirstHeader, Desc, Header, Skipping, Edit, OpenData, ClosedData, Refused}
+use Rattle.feeding.specs.declared.DataChunk.{DataChunk}
+use Rattle.feeding.specs.declared.DataChunk.the-variants.{Ahead, Passed}
 use Rattle.feeding.specs.declared.Feeder.{Feeder}
 use Rattle.feeding.specs.declared.Fed.{Fed}
 use Rattle.feeding.proofs.Soundness.{Facts, sound-facts, sound-tests, bytes-sound, fresh-sound}
@@ -59,11 +61,18 @@ module _ (h : List ℕ) (n t k : ℕ) (l : length h ≡ 32) (b : Bytes h) where
   at-back FileHeader p = with-phase FileHeader FileHeader refl
   at-back FirstHeader p = with-phase FirstHeader FirstHeader refl
   at-back Desc p = with-phase Desc Desc refl
-  at-back (Header f) p = with-phase (Header (again f)) (Header f) (ap Header (format-back f p))
-  at-back (Skipping f m) p = with-phase (Skipping (again f) m) (Skipping f m) (ap (λ (x : AudioFormat). Skipping x m) (format-back f p))
+  at-back (Header f Ahead) p = with-phase (Header (again f) Ahead) (Header f Ahead) (ap (λ (x : AudioFormat). Header x Ahead) (format-back f p))
+  at-back (Header f (Passed size start)) p =
+      with-phase (Header (again f) (Passed size start)) (Header f (Passed size start)) (ap (λ (x : AudioFormat). Header x (Passed size start)) (format-back f p))
+  at-back (Skipping f Ahead m) p =
+      with-phase (Skipping (again f) Ahead m) (Skipping f Ahead m) (ap (λ (x : AudioFormat). Skipping x Ahead m) (format-back f p))
+  at-back (Skipping f (Passed size start) m) p =
+      with-phase (Skipping (again f) (Passed size start) m) (Skipping f (Passed size start) m)
+      (ap (λ (x : AudioFormat). Skipping x (Passed size start) m) (format-back f p))
   at-back (Edit f size) p = with-phase (Edit (again f) size) (Edit f size) (ap (λ (x : AudioFormat). Edit x size) (format-back f p))
-  at-back (InData f size start) p =
-      with-phase (InData (again f) size start) (InData f size start) (ap (λ (x : AudioFormat). InData x size start) (format-back f p))
+  at-back (OpenData f start) p = with-phase (OpenData (again f) start) (OpenData f start) (ap (λ (x : AudioFormat). OpenData x start) (format-back f p))
+  at-back (ClosedData f size start m) p =
+      with-phase (ClosedData (again f) size start m) (ClosedData f size start m) (ap (λ (x : AudioFormat). ClosedData x size start m) (format-back f p))
   at-back (Refused number) p = with-phase (Refused number) (Refused number) refl
 
   at-stands : (phase : Phase) → TypedPhase phase → isFeeder (feederNumbers (at phase)) ≡ true
@@ -71,10 +80,13 @@ module _ (h : List ℕ) (n t k : ℕ) (l : length h ≡ 32) (b : Bytes h) where
   at-stands FileHeader p = refl
   at-stands FirstHeader p = refl
   at-stands Desc p = refl
-  at-stands (Header f) p = let w = words f p in rw (w .0, w .1, w .2, w .3, w .4, w .5)
-  at-stands (Skipping f m) p = let w = words f p in rw (w .0, w .1, w .2, w .3, w .4, w .5)
+  at-stands (Header f Ahead) p = let w = words f p in rw (w .0, w .1, w .2, w .3, w .4, w .5)
+  at-stands (Header f (Passed size start)) p = let w = words f p in rw (w .0, w .1, w .2, w .3, w .4, w .5)
+  at-stands (Skipping f Ahead m) p = let w = words f p in rw (w .0, w .1, w .2, w .3, w .4, w .5)
+  at-stands (Skipping f (Passed size start) m) p = let w = words f p in rw (w .0, w .1, w .2, w .3, w .4, w .5)
   at-stands (Edit f size) p = let w = words f p in rw (w .0, w .1, w .2, w .3, w .4, w .5)
-  at-stands (InData f size start) p = let w = words f p in rw (w .0, w .1, w .2, w .3, w .4, w .5)
+  at-stands (OpenData f start) p = let w = words f p in rw (w .0, w .1, w .2, w .3, w .4, w .5)
+  at-stands (ClosedData f size start m) p = let w = words f p in rw (w .0, w .1, w .2, w .3, w .4, w .5)
   at-stands (Refused number) p = let w : isWord number ≡ true = lt-ltb number (2 ^ 32) p in rw w
 
 pub numbers-back : (r : Feeder) → TypedFeeder r → feederOf (feederNumbers r) ≡ r
@@ -88,10 +100,11 @@ not-unsound : (n t k : ℕ) (phase : Phase) → Facts n t k phase → numberAt p
 not-unsound n t k FileHeader a e = omega arith
 not-unsound n t k FirstHeader a e = omega arith
 not-unsound n t k Desc a e = omega arith
-not-unsound n t k (Header f) a e = omega arith
-not-unsound n t k (Skipping f m) a e = omega arith
+not-unsound n t k (Header f d) a e = omega arith
+not-unsound n t k (Skipping f d m) a e = omega arith
 not-unsound n t k (Edit f size) a e = omega arith
-not-unsound n t k (InData f size start) a e = omega arith
+not-unsound n t k (OpenData f start) a e = omega arith
+not-unsound n t k (ClosedData f size start m) a e = omega arith
 not-unsound n t k (Refused number) a e = true≢false (sym (a .1) ∙ ap (λ (x : ℕ). eqb x tooLong || isByBytes x) e)
 
 -- one call on the numbers of a record, and one on the record

@@ -13,14 +13,16 @@ use Rattle.format.specs.Desc.{descSize, Typed}
 use Rattle.format.specs.declared.AudioFormat.{AudioFormat}
 use Rattle.reading.specs.Types.{'caff', 'desc', 'data', version, negative}
 use Rattle.reading.specs.Step.{standsAt, sizeAt, badRateAt}
-use Rattle.reading.specs.Strict.{isBadDataSize}
+use Rattle.reading.specs.Rules.{isOpenSize, isBadDataSize}
 use Rattle.reading.specs.Claims.{Bytes}
 use Rattle.reading.proofs.Choice.{either}
 use Rattle.reading.proofs.SoundDesc.{desc-typed}
 use Rattle.feeding.specs.Record.{pieceSize}
-use Rattle.feeding.specs.Feed.{skipping, judgedHeader, judged, collected, fills, took, isRefused, step1, feedBytes}
+use Rattle.feeding.specs.Feed.{skipping, passing, judgedData, judgedHeader, judged, collected, fills, took, isRefused, step1, feedBytes}
 use Rattle.feeding.specs.declared.Phase.{Phase}
-use Rattle.feeding.specs.declared.Phase.the-variants.{FileHeader, FirstHeader, Desc, Header, Skipping, Edit, InData, Refused}
+use Rattle.feeding.specs.declared.Phase.the-variants.{FileHeader, FirstHeader, Desc, Header, Skipping, Edit, OpenData, ClosedData, Refused}
+use Rattle.feeding.specs.declared.DataChunk.{DataChunk}
+use Rattle.feeding.specs.declared.DataChunk.the-variants.{Ahead, Passed}
 use Rattle.feeding.specs.declared.Feeder.{Feeder}
 use Rattle.feeding.proofs.Soundness.{Sound, step-sound}
 
@@ -29,10 +31,11 @@ abbrev pub TypedPhase : Phase → Type 0
 TypedPhase FileHeader = Unit {0}
 TypedPhase FirstHeader = Unit {0}
 TypedPhase Desc = Unit {0}
-TypedPhase (Header f) = Typed f
-TypedPhase (Skipping f left) = Typed f
+TypedPhase (Header f d) = Typed f
+TypedPhase (Skipping f d left) = Typed f
 TypedPhase (Edit f size) = Typed f
-TypedPhase (InData f size start) = Typed f
+TypedPhase (OpenData f start) = Typed f
+TypedPhase (ClosedData f size start left) = Typed f
 TypedPhase (Refused number) = number < 2 ^ 32
 
 pub record TypedFeeder (r : Feeder) : Type 0 where
@@ -57,8 +60,15 @@ dropped (suc n) (x ∷ xs) a = dropped n xs (a .1)
 spliced : (xs : List ℕ) (n : ℕ) (ys : List ℕ) → Bytes xs → Bytes ys → Bytes (splice xs n ys)
 spliced xs n ys a b = joined (take n xs ++ ys) _ (joined (take n xs) ys (taken n xs a) b) (dropped (n + length ys) xs a)
 
-skipping-typed : (f : AudioFormat) (n : ℕ) → Typed f → TypedPhase (skipping f n)
-skipping-typed f n t = either TypedPhase (eqb n 0) (λ _. t) (λ _. t)
+skipping-typed : (f : AudioFormat) (d : DataChunk) (n : ℕ) → Typed f → TypedPhase (skipping f d n)
+skipping-typed f d n t = either TypedPhase (eqb n 0) (λ _. t) (λ _. t)
+
+passing-typed : (f : AudioFormat) (size start n : ℕ) → Typed f → TypedPhase (passing f size start n)
+passing-typed f size start n t = either TypedPhase (eqb n 0) (λ _. t) (λ _. t)
+
+data-typed : (f : AudioFormat) (d : DataChunk) (size : ℕ) → Typed f → TypedPhase (judgedData f d size)
+data-typed f Ahead size t = either TypedPhase (isBadDataSize size) (λ _. omega arith) (λ _. t)
+data-typed f (Passed z start) size t = omega arith
 
 -- what a whole piece of bytes leads to
 judged-typed : (h : List ℕ) (t : ℕ) (phase : Phase) → Bytes h → TypedPhase phase → TypedPhase (judged h t phase)
@@ -68,14 +78,14 @@ judged-typed h t FileHeader b p =
     (λ _. either TypedPhase (not (standsAt h 4 version)) (λ _. omega arith) (λ _. tt))
 judged-typed h t FirstHeader b p = either TypedPhase (not (standsAt h 0 'desc' && eqb (sizeAt h 0) descSize)) (λ _. omega arith) (λ _. tt)
 judged-typed h t Desc b p = either TypedPhase (badRateAt h 0) (λ _. omega arith) (λ e. desc-typed h 0 b e)
-judged-typed h t (Header f) b p =
+judged-typed h t (Header f d) b p =
     either TypedPhase (standsAt h 0 'desc') (λ _. omega arith)
-    (λ _. either TypedPhase (standsAt h 0 'data')
-    (λ _. either TypedPhase (isBadDataSize (sizeAt h 0)) (λ _. omega arith) (λ _. p))
-    (λ _. either TypedPhase (leb negative (sizeAt h 0)) (λ _. omega arith) (λ _. skipping-typed f (sizeAt h 0) p)))
-judged-typed h t (Skipping f left) b p = p
-judged-typed h t (Edit f size) b p = p
-judged-typed h t (InData f size start) b p = p
+    (λ _. either TypedPhase (standsAt h 0 'data') (λ _. data-typed f d (sizeAt h 0) p)
+    (λ _. either TypedPhase (leb negative (sizeAt h 0)) (λ _. omega arith) (λ _. skipping-typed f d (sizeAt h 0) p)))
+judged-typed h t (Skipping f d left) b p = p
+judged-typed h t (Edit f size) b p = either TypedPhase (isOpenSize size) (λ _. p) (λ _. passing-typed f size t (size - 4) p)
+judged-typed h t (OpenData f start) b p = p
+judged-typed h t (ClosedData f size start left) b p = p
 judged-typed h t (Refused number) b p = p
 
 fills-typed : (r : Feeder) (b : ℕ) → b < 256 → r .count < 32 → TypedFeeder r → TypedFeeder (fills r (b ∷ []))
@@ -97,10 +107,11 @@ module _ (h : List ℕ) (n t k b : ℕ) (l : b < 256) where
   took-typed FileHeader few a = fills-typed (at FileHeader) b l (omega arith) a
   took-typed FirstHeader few a = fills-typed (at FirstHeader) b l (omega arith) a
   took-typed Desc few a = fills-typed (at Desc) b l (omega arith) a
-  took-typed (Header f) few a = fills-typed (at (Header f)) b l (omega arith) a
-  took-typed (Skipping f m) few a = record { long = a .long; bytes = a .bytes; phase = skipping-typed f (m - 1) (a .phase) }
+  took-typed (Header f d) few a = fills-typed (at (Header f d)) b l (omega arith) a
+  took-typed (Skipping f d m) few a = record { long = a .long; bytes = a .bytes; phase = skipping-typed f d (m - 1) (a .phase) }
   took-typed (Edit f size) few a = fills-typed (at (Edit f size)) b l (omega arith) a
-  took-typed (InData f size start) few a = record { long = a .long; bytes = a .bytes; phase = a .phase }
+  took-typed (OpenData f start) few a = record { long = a .long; bytes = a .bytes; phase = a .phase }
+  took-typed (ClosedData f size start m) few a = record { long = a .long; bytes = a .bytes; phase = passing-typed f size start (m - 1) (a .phase) }
   took-typed (Refused number) few a = a
 
 step-typed : (r : Feeder) (b : ℕ) → b < 256 → Sound r → TypedFeeder r → TypedFeeder (step1 r b)

@@ -14,19 +14,18 @@ use Rattle.byteorder.proofs.Budget.{whole-done}
 use Rattle.byteorder.proofs.Laws.{length-splice, more}
 use Rattle.feeding.specs.Feed.{feed}
 use Rattle.feeding.specs.declared.Phase.{Phase}
-use Rattle.feeding.specs.declared.Phase.the-variants.{FileHeader, FirstHeader, Desc, Header, Skipping, Edit, InData, Refused}
+use Rattle.feeding.specs.declared.Phase.the-variants.{FileHeader, FirstHeader, Desc, Header, Skipping, Edit, OpenData, ClosedData, Refused}
 use Rattle.feeding.specs.declared.Feeder.{Feeder}
 use Rattle.feeding.specs.declared.Fed.{Fed}
 use Rattle.reading.proofs.Choice.{both}
 use Rattle.caf.specs.RecordNumbers.{at, isWord, allWords}
-use Rattle.caf.specs.FeederNumbers.{feederPlaces, phaseKind, phaseFormat, phaseNumber, phaseStart, feederNumbers, feederOf, isFeeder}
+use Rattle.caf.specs.FeederNumbers.{feederPlaces, phaseKind, phaseFormat, phaseNumber, phaseSize, phaseStart, feederNumbers, feederOf, isFeeder}
 use Rattle.caf.specs.FeederCalls.{feedOn, feederAfter, FeedCall}
 use Rattle.caf.proofs.Puts.{whole}
 
 -- what is known of an array that stands for a record
 pub record IsFeeder (ns : List ℕ) : Type 0 where
   pub places : length ns ≡ feederPlaces
-  pub kind : at ns 0 ≤ 7
   pub words : allWords (take 6 (drop 2 ns)) ≡ true
   pub number : at ns 0 ≡ 7 → at ns 8 < 2 ^ 32
 
@@ -35,25 +34,14 @@ unfolding isFeeder
 is-feeder ns e =
     let e₃ = both _ (cond (eqb (at ns 0) 7) (isWord (at ns 8)) true) e in
     let e₂ = both _ (allWords (take 6 (drop 2 ns))) (e₃ .0) in
-    let e₁ = both (eqb (length ns) feederPlaces) (leb (at ns 0) 7) (e₂ .0) in
+    let e₁ = both (eqb (length ns) feederPlaces) (leb (at ns 0) 10) (e₂ .0) in
     record {
       places = eqb-true _ _ (e₁ .0);
-      kind = leb-true _ _ (e₁ .1);
       words = e₂ .1;
       number = λ k. ltb-true _ _ (rw (eq-eqb _ _ k) at (e₃ .1));
     }
 
--- the one number of a phase that is left when seven are not it
-three-up : (k : ℕ) → (k ≡ 0 → ⊥) → (k ≡ 1 → ⊥) → (k ≡ 2 → ⊥) → 3 ≤ k
-three-up k a b c = omega arith
-
-pub only-six : (k : ℕ) → k ≤ 7 → (k ≡ 0 → ⊥) → (k ≡ 1 → ⊥) → (k ≡ 2 → ⊥) → (k ≡ 7 → ⊥) → (k ≡ 3 → ⊥) → (k ≡ 4 → ⊥) → (k ≡ 5 → ⊥) → k ≡ 6
-only-six k l a b c d e f g = four-left k l (three-up k a b c) d e f g
-  where
-    four-left : (k : ℕ) → k ≤ 7 → 3 ≤ k → (k ≡ 7 → ⊥) → (k ≡ 3 → ⊥) → (k ≡ 4 → ⊥) → (k ≡ 5 → ⊥) → k ≡ 6
-    four-left k l m d e f g = omega arith
-
--- seven numbers read one by one, and more behind them
+-- seven numbers read one by one, and more after them
 format-then : (phase : Phase) (middle rest : List ℕ)
     → getD (phaseFormat phase) 0 0 ∷ getD (phaseFormat phase) 1 0 ∷ getD (phaseFormat phase) 2 0 ∷ getD (phaseFormat phase) 3 0
     ∷ getD (phaseFormat phase) 4 0 ∷ getD (phaseFormat phase) 5 0 ∷ getD (phaseFormat phase) 6 0
@@ -62,22 +50,24 @@ format-then : (phase : Phase) (middle rest : List ℕ)
 format-then FileHeader middle rest = refl
 format-then FirstHeader middle rest = refl
 format-then Desc middle rest = refl
-format-then (Header f) middle rest = refl
-format-then (Skipping f left) middle rest = refl
+format-then (Header f d) middle rest = refl
+format-then (Skipping f d left) middle rest = refl
 format-then (Edit f size) middle rest = refl
-format-then (InData f size start) middle rest = refl
+format-then (OpenData f start) middle rest = refl
+format-then (ClosedData f size start left) middle rest = refl
 format-then (Refused number) middle rest = refl
 
 -- so the record's numbers are those of its parts
-pub feeder-is : (r : Feeder) (k n s a b c d : ℕ) (f : List ℕ) → k ≡ phaseKind (r .phase) → f ≡ phaseFormat (r .phase) → n ≡ phaseNumber (r .phase)
-    → s ≡ phaseStart (r .phase) → a ≡ bigAt 8 (r .held) 0 → b ≡ bigAt 8 (r .held) 8 → c ≡ bigAt 8 (r .held) 16 → d ≡ bigAt 8 (r .held) 24
-    → (k ∷ getD f 0 0 ∷ getD f 1 0 ∷ getD f 2 0 ∷ getD f 3 0 ∷ getD f 4 0 ∷ getD f 5 0 ∷ getD f 6 0 ∷ n ∷ s
+pub feeder-is : (r : Feeder) (k n z s a b c d : ℕ) (f : List ℕ) → k ≡ phaseKind (r .phase) → f ≡ phaseFormat (r .phase) → n ≡ phaseNumber (r .phase)
+    → z ≡ phaseSize (r .phase) → s ≡ phaseStart (r .phase) → a ≡ bigAt 8 (r .held) 0 → b ≡ bigAt 8 (r .held) 8 → c ≡ bigAt 8 (r .held) 16
+    → d ≡ bigAt 8 (r .held) 24
+    → (k ∷ getD f 0 0 ∷ getD f 1 0 ∷ getD f 2 0 ∷ getD f 3 0 ∷ getD f 4 0 ∷ getD f 5 0 ∷ getD f 6 0 ∷ n ∷ z ∷ s
     ∷ r .count ∷ r .total ∷ r .chunks ∷ a ∷ b ∷ c ∷ d ∷ []) ≡ feederNumbers r
 unfolding feederNumbers
-feeder-is r k n s a b c d f ek ef en es ea eb ec ed =
-    rw (ek, ef, en, es, ea, eb, ec, ed)
+feeder-is r k n z s a b c d f ek ef en ez es ea eb ec ed =
+    rw (ek, ef, en, ez, es, ea, eb, ec, ed)
     (ap (λ (xs : List ℕ). phaseKind (r .phase) ∷ xs)
-    (format-then (r .phase) (phaseNumber (r .phase) ∷ phaseStart (r .phase) ∷ r .count ∷ r .total ∷ r .chunks ∷ [])
+    (format-then (r .phase) (phaseNumber (r .phase) ∷ phaseSize (r .phase) ∷ phaseStart (r .phase) ∷ r .count ∷ r .total ∷ r .chunks ∷ [])
     (bigAt 8 (r .held) 0 ∷ bigAt 8 (r .held) 8 ∷ bigAt 8 (r .held) 16 ∷ bigAt 8 (r .held) 24 ∷ [])))
 
 -- 32 bytes, eight by eight
@@ -97,7 +87,7 @@ four-eights d m n o p {a = a} {b = b} {c = c} {e = e} l pa pb pc pe =
     ∙ whole d (bigBytes 8 m ++ bigBytes 8 n ++ bigBytes 8 o ++ bigBytes 8 p) (sym l)
 
 feeder-long : (r : Feeder) → length (feederNumbers r) ≡ feederPlaces
-feeder-long r = ap length (sym (feeder-is r _ _ _ _ _ _ _ _ refl refl refl refl refl refl refl refl))
+feeder-long r = ap length (sym (feeder-is r _ _ _ _ _ _ _ _ _ refl refl refl refl refl refl refl refl refl))
 
 -- a record put over all places of the array
 pub kept-whole : (d ns : List ℕ) (r : Feeder) {after : List ℕ} → length d ≡ feederPlaces → ns ≡ feederNumbers r → after ≡ splice d 0 ns → after ≡ feederNumbers r

@@ -4,21 +4,27 @@ use crate::format_from::audio_of;
 use crate::format_from::word;
 use crate::format_from::words;
 use byteorder::put::put_u64;
+use feeding::DataChunk;
 use feeding::Feeder;
 use feeding::Phase;
+use format::AudioFormat;
 ghost use mathlib.Core.Path.{_≡_};
 ghost use mathlib.Core.Bool.{true};
 ghost use lib.ListN.{length};
-ghost use Rattle.caf.specs.FeederNumbers.{feederPlaces, phaseOf, heldIn, feederOf, isFeeder};
+ghost use Rattle.caf.specs.FeederNumbers.{feederPlaces, afterData, phaseOf, heldIn, feederOf, isFeeder};
 
-pub(crate) const FEEDER_PLACES: usize = 17;
+pub(crate) const FEEDER_PLACES: usize = 18;
 
-// The phase of a record that met a refusal. No phase has a greater number.
+// The phase of a record that met a refusal, and that of closed data. No phase has a greater number.
 const REFUSED: u64 = 7;
+
+const CLOSED_DATA: u64 = 10;
 
 const NUMBER: usize = 8;
 
-const START: usize = 9;
+const SIZE: usize = 9;
+
+const START: usize = 10;
 
 // Whether the array stands for a record.
 pub(crate) fn is_feeder(numbers: &[u64]) -> bool
@@ -27,7 +33,7 @@ pub(crate) fn is_feeder(numbers: &[u64]) -> bool
     if numbers.len() != FEEDER_PLACES {
         return false;
     }
-    if REFUSED < numbers[0] {
+    if CLOSED_DATA < numbers[0] {
         return false;
     }
     if !words(numbers, 2, 6) {
@@ -37,6 +43,23 @@ pub(crate) fn is_feeder(numbers: &[u64]) -> bool
         return numbers[NUMBER] < WORDS;
     }
     true
+}
+
+// A phase that holds a closed data chunk.
+fn after_data(numbers: &[u64], kind: u64, format: AudioFormat) -> Phase
+    requires { ⌜ length (now numbers) ≡ feederPlaces ⌝ }
+    ensures { λ phase. ⌜ phase ≡ afterData (now (numbers .entry)) kind format ⌝ }
+{
+    let size = numbers[SIZE] as usize;
+    let start = numbers[START] as usize;
+    if kind == 8 {
+        return Phase::Header(format, DataChunk::Passed(size, start));
+    }
+    let left = numbers[NUMBER] as usize;
+    if kind == 9 {
+        return Phase::Skipping(format, DataChunk::Passed(size, start), left);
+    }
+    Phase::ClosedData(format, size, start, left)
 }
 
 fn phase_of(numbers: &[u64]) -> Phase
@@ -58,15 +81,18 @@ fn phase_of(numbers: &[u64]) -> Phase
     }
     let format = audio_of(numbers);
     if kind == 3 {
-        return Phase::Header(format);
+        return Phase::Header(format, DataChunk::Ahead);
     }
     if kind == 4 {
-        return Phase::Skipping(format, numbers[NUMBER] as usize);
+        return Phase::Skipping(format, DataChunk::Ahead, numbers[NUMBER] as usize);
     }
     if kind == 5 {
-        return Phase::Edit(format, numbers[NUMBER] as usize);
+        return Phase::Edit(format, numbers[SIZE] as usize);
     }
-    Phase::InData(format, numbers[NUMBER] as usize, numbers[START] as usize)
+    if kind == 6 {
+        return Phase::OpenData(format, numbers[START] as usize);
+    }
+    after_data(numbers, kind, format)
 }
 
 fn held_of(numbers: &[u64]) -> [u8; 32]
@@ -74,10 +100,10 @@ fn held_of(numbers: &[u64]) -> [u8; 32]
     ensures { λ held. ⌜ held ≡ heldIn (now (numbers .entry)) ⌝ }
 {
     let mut held = [0u8; 32];
-    put_u64(&mut held, 0, numbers[13]);
-    put_u64(&mut held, 8, numbers[14]);
-    put_u64(&mut held, 16, numbers[15]);
-    put_u64(&mut held, 24, numbers[16]);
+    put_u64(&mut held, 0, numbers[14]);
+    put_u64(&mut held, 8, numbers[15]);
+    put_u64(&mut held, 16, numbers[16]);
+    put_u64(&mut held, 24, numbers[17]);
     held
 }
 
@@ -90,8 +116,8 @@ pub(crate) fn feeder_of(numbers: &[u64]) -> Feeder
     Feeder {
         phase: phase,
         held: held,
-        count: numbers[10] as usize,
-        total: numbers[11] as usize,
-        chunks: numbers[12] as usize,
+        count: numbers[11] as usize,
+        total: numbers[12] as usize,
+        chunks: numbers[13] as usize,
     }
 }

@@ -33,10 +33,13 @@ abbrev pub sizeOf : CafFile → ℕ
 sizeOf c = dataSize (c .isOpen) (c .audio)
 
 abbrev pub afterSize : CafFile → List ℕ
-afterSize c = bigBytes editSize (c .editCount) ++ c .audio
+afterSize c = bigBytes editSize (c .editCount) ++ c .audio ++ otherChunks (c .tail)
 
 pub parts : (c : CafFile) → bytesOf c ≡ fileHeader ++ (chunk 'desc' (descBody (c .format)) ++ (otherChunks (c .others) ++ (chunkHeader 'data' (sizeOf c) ++ afterSize c)))
 unfolding bytesOf
 parts c =
-    ap (λ (x : List ℕ). front (c .format) (c .others) ++ x) (append-assoc (chunkHeader 'data' (sizeOf c)) (bigBytes editSize (c .editCount)) (c .audio))
-    ∙ front-parts (c .format) (c .others) (chunkHeader 'data' (sizeOf c) ++ afterSize c)
+    let d = chunkHeader 'data' (sizeOf c) in
+    let n = bigBytes editSize (c .editCount) in
+    let tail = otherChunks (c .tail) in
+    ap (λ (x : List ℕ). front (c .format) (c .others) ++ x) (ap (λ (x : List ℕ). x ++ tail) (append-assoc d n (c .audio)) ∙ append-assoc d (n ++ c .audio) tail)
+    ∙ front-parts (c .format) (c .others) (d ++ afterSize c)

@@ -99,8 +99,10 @@ fn begun(slots: &[u8], file: &mut [u8])
     }
 }
 
-// A whole `desc`, by its number among the pieces.
+// A whole `desc` and a closed `data`, by their numbers among the pieces.
 const DESC: usize = 2;
+
+const DATA: usize = 10;
 
 fn run(slots: &[u8], file: &mut [u8]) {
     word(b"-");
@@ -110,6 +112,8 @@ fn run(slots: &[u8], file: &mut [u8]) {
     let header = put(slots, HEADER, file, 0);
     let at = put(slots, DESC, file, header);
     lines(slots, file, b"ac", at);
+    let tail = put(slots, DATA, file, at);
+    lines(slots, file, b"ack", tail);
 }
 
 fn main() {

@@ -1,5 +1,6 @@
-use Rattle.caf.proofs.Feeders.{is-feeder, only-six}
+use Rattle.caf.proofs.Feeders.{is-feeder}
 use Rattle.caf.specs.FeederNumbers.{phaseOf}
+use borrow.Author.Tests.{ne-eqb}
 use native.Mathlib.Omega.{arith}
 use Rattle.caf.proofs.feeder_from.phase_of.Statement.{statement}
 use Rattle.caf.proofs.feeder_from.phase_of.Tie as tie
@@ -33,29 +34,33 @@ returns-5 : tie.Need-returns-5
 unfolding phaseOf
 returns-5 c = rw (c .if5 .taken, c .before .audio-of .ensures)
 
-shared-slice-read-t9 : tie.Need-shared-slice-read-t9
-shared-slice-read-t9 c = let p = is-feeder _ (c .before .before .before .before .before .before .before .before .before .before .pre) .places in omega arith
+shared-slice-read-t11 : tie.Need-shared-slice-read-t11
+shared-slice-read-t11 c = let p = is-feeder _ (c .before .before .before .before .before .before .before .before .before .before .pre) .places in omega arith
 
 returns-6 : tie.Need-returns-6
 unfolding phaseOf
 returns-6 c = rw (c .before .if6 .taken, c .before .before .before .audio-of .ensures)
 
-shared-slice-read-t12 : tie.Need-shared-slice-read-t12
-shared-slice-read-t12 c = let p = is-feeder _ (c .before .before .before .before .before .before .before .before .before .before .before .pre) .places in omega arith
+shared-slice-read-t14 : tie.Need-shared-slice-read-t14
+shared-slice-read-t14 c = let p = is-feeder _ (c .before .before .before .before .before .before .before .before .before .before .before .pre) .places in omega arith
 
 returns-7 : tie.Need-returns-7
 unfolding phaseOf
 returns-7 c = rw (c .before .if7 .taken, c .before .before .before .before .audio-of .ensures)
-
-shared-slice-read-t5 : tie.Need-shared-slice-read-t5
-shared-slice-read-t5 c = let p = is-feeder _ (c .before .before .before .before .before .before .before .before .before .before .before .pre) .places in omega arith
 
 shared-slice-read-t17 : tie.Need-shared-slice-read-t17
 shared-slice-read-t17 c = let p = is-feeder _ (c .before .before .before .before .before .before .before .before .before .before .before .before .pre) .places in omega arith
 
 returns-8 : tie.Need-returns-8
 unfolding phaseOf
-returns-8 c = let e = only-six _ (is-feeder _ (c .before .before .before .before .before .before .before .before .before .before .before .before .pre) .kind) (c .before .before .before .before .before .before .before .before .before .if1 .left) (c .before .before .before .before .before .before .before .before .if2 .left) (c .before .before .before .before .before .before .before .if3 .left) (c .before .before .before .before .before .before .if4 .left) (c .before .before .before .before .if5 .left) (c .before .before .before .if6 .left) (c .before .before .if7 .left) in rw (e, c .before .before .before .before .before .audio-of .ensures)
+returns-8 c = rw (c .before .if8 .taken, c .before .before .before .before .before .audio-of .ensures)
+
+after-data-requires : tie.Need-after-data-requires
+after-data-requires c κs = is-feeder _ (c .before .before .before .before .before .before .before .before .before .before .before .pre) .places
+
+returns-9 : tie.Need-returns-9
+unfolding phaseOf
+returns-9 c = rw (ne-eqb _ _ (c .before .before .before .before .before .before .before .before .before .if1 .left), ne-eqb _ _ (c .before .before .before .before .before .before .before .before .if2 .left), ne-eqb _ _ (c .before .before .before .before .before .before .before .if3 .left), ne-eqb _ _ (c .before .before .before .before .before .before .if4 .left), ne-eqb _ _ (c .before .before .before .before .if5 .left), ne-eqb _ _ (c .before .before .before .if6 .left), ne-eqb _ _ (c .before .before .if7 .left), ne-eqb _ _ (c .before .if8 .left), ← c .before .before .before .before .before .audio-of .ensures) (c .after-data .ensures)
 
 pub phase-of-spec : {M : Type 1} → statement M
 phase-of-spec =
@@ -69,10 +74,11 @@ phase-of-spec =
     returns-4
     audio-of-requires
     returns-5
-    shared-slice-read-t9
+    shared-slice-read-t11
     returns-6
-    shared-slice-read-t12
+    shared-slice-read-t14
     returns-7
-    shared-slice-read-t5
     shared-slice-read-t17
-    returns-8)
+    returns-8
+    after-data-requires
+    returns-9)

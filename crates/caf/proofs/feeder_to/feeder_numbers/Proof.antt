@@ -33,6 +33,9 @@ array-read-t27 c = search needs
 phase-number-requires : tie.Need-phase-number-requires
 phase-number-requires c κs = search needs
 
+phase-size-requires : tie.Need-phase-size-requires
+phase-size-requires c κs = search needs
+
 phase-start-requires : tie.Need-phase-start-requires
 phase-start-requires c κs = search needs
 
@@ -61,7 +64,7 @@ be-u64-requires-4 : tie.Need-be-u64-requires-4
 be-u64-requires-4 c κs = search needs
 
 returns : tie.Need-returns
-returns c = feeder-is (c .before .before .before .before .before .before .before .before .before .before .before .before .before .args .r) _ _ _ _ _ _ _ _ (c .before .before .before .before .before .before .before .before .before .before .phase-kind .ensures) (c .before .before .before .before .before .before .before .before .before .before .before .before .phase-format .ensures) (c .before .before .before .before .before .before .before .before .before .phase-number .ensures) (c .before .before .before .before .before .before .before .before .phase-start .ensures) (c .before .before .before .before .before .before .be-u64 .ensures) (c .before .before .before .before .be-u642 .ensures) (c .before .before .be-u643 .ensures) (c .be-u644 .ensures)
+returns c = feeder-is (c .before .before .before .before .before .before .before .before .before .before .before .before .before .before .args .r) _ _ _ _ _ _ _ _ _ (c .before .before .before .before .before .before .before .before .before .before .before .phase-kind .ensures) (c .before .before .before .before .before .before .before .before .before .before .before .before .before .phase-format .ensures) (c .before .before .before .before .before .before .before .before .before .before .phase-number .ensures) (c .before .before .before .before .before .before .before .before .before .phase-size .ensures) (c .before .before .before .before .before .before .before .before .phase-start .ensures) (c .before .before .before .before .before .before .be-u64 .ensures) (c .before .before .before .before .be-u642 .ensures) (c .before .before .be-u643 .ensures) (c .be-u644 .ensures)
 
 pub feeder-numbers-spec : {M : Type 1} → statement M
 feeder-numbers-spec =
@@ -77,6 +80,7 @@ feeder-numbers-spec =
     array-read-t24
     array-read-t27
     phase-number-requires
+    phase-size-requires
     phase-start-requires
     slice-aggregate-be-u64
     be-u64-requires

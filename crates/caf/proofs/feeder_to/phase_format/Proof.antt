@@ -35,6 +35,12 @@ enum-known-phase-4 c = search needs
 audio-numbers-requires-4 : tie.Need-audio-numbers-requires-4
 audio-numbers-requires-4 c κs = search needs
 
+enum-known-phase-5 : tie.Need-enum-known-phase-5
+enum-known-phase-5 c = search needs
+
+audio-numbers-requires-5 : tie.Need-audio-numbers-requires-5
+audio-numbers-requires-5 c κs = search needs
+
 enum-told-4 : tie.Need-enum-told-4
 enum-told-4 c = search needs
 
@@ -60,7 +66,10 @@ returns-7 : tie.Need-returns-7
 returns-7 c = rw (c .before .before .phase4 .given .1) (c .audio-numbers4 .ensures)
 
 returns-8 : tie.Need-returns-8
-returns-8 c = search needs
+returns-8 c = rw (c .before .before .phase5 .given .1) (c .audio-numbers5 .ensures)
+
+returns-9 : tie.Need-returns-9
+returns-9 c = search needs
 
 pub phase-format-spec : {M : Type 1} → statement M
 phase-format-spec =
@@ -77,6 +86,8 @@ phase-format-spec =
     audio-numbers-requires-3
     enum-known-phase-4
     audio-numbers-requires-4
+    enum-known-phase-5
+    audio-numbers-requires-5
     enum-told-4
     returns
     returns-2
@@ -85,4 +96,5 @@ phase-format-spec =
     returns-5
     returns-6
     returns-7
-    returns-8)
+    returns-8
+    returns-9)

@@ -17,14 +17,17 @@ enum-told-4 c = search needs
 enum-known-phase : tie.Need-enum-known-phase
 enum-known-phase c = search needs
 
+enum-told-5 : tie.Need-enum-told-5
+enum-told-5 c = search needs
+
+enum-told-6 : tie.Need-enum-told-6
+enum-told-6 c = search needs
+
 enum-known-phase-2 : tie.Need-enum-known-phase-2
 enum-known-phase-2 c = search needs
 
 enum-known-phase-3 : tie.Need-enum-known-phase-3
 enum-known-phase-3 c = search needs
-
-enum-known-phase-4 : tie.Need-enum-known-phase-4
-enum-known-phase-4 c = search needs
 
 cast-result : tie.Need-cast-result
 cast-result c = search needs
@@ -42,16 +45,19 @@ returns-4 : tie.Need-returns-4
 returns-4 c = search needs
 
 returns-5 : tie.Need-returns-5
-returns-5 c = search needs
+returns-5 c = rw (c .before .phase .given .1)
 
 returns-6 : tie.Need-returns-6
-returns-6 c = rw (c .before .phase2 .given .1)
+returns-6 c = search needs
 
 returns-7 : tie.Need-returns-7
-returns-7 c = rw (c .before .phase3 .given .1)
+returns-7 c = search needs
 
 returns-8 : tie.Need-returns-8
-returns-8 c = search needs
+returns-8 c = rw (c .before .phase2 .given .1)
+
+returns-9 : tie.Need-returns-9
+returns-9 c = search needs
 
 pub phase-number-spec : {M : Type 1} → statement M
 phase-number-spec =
@@ -62,9 +68,10 @@ phase-number-spec =
     enum-told-3
     enum-told-4
     enum-known-phase
+    enum-told-5
+    enum-told-6
     enum-known-phase-2
     enum-known-phase-3
-    enum-known-phase-4
     cast-result
     returns
     returns-2
@@ -73,4 +80,5 @@ phase-number-spec =
     returns-5
     returns-6
     returns-7
-    returns-8)
+    returns-8
+    returns-9)
