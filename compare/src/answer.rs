@@ -16,6 +16,7 @@ pub const PACKET_TOO_BIG: u32 = 15;
 pub const BAD_LABEL: u32 = 16;
 pub const TOO_MANY_LABELS: u32 = 17;
 pub const BAD_TAG: u32 = 18;
+pub const TAIL_AFTER_DATA: u32 = 24;
 /// Not one of 01's: a call of a script after a cut, when no writer is left. Both sides do nothing.
 pub const NO_WRITER: u32 = 255;
 
@@ -23,7 +24,15 @@ pub const NO_WRITER: u32 = 255;
 pub fn outside(number: u32) -> bool {
     matches!(
         number,
-        BAD_SIZE | BAD_RATE | HEADER_ALREADY | PACKET_TOO_BIG | BAD_LABEL | TOO_MANY_LABELS | BAD_TAG | NO_WRITER
+        BAD_SIZE
+            | BAD_RATE
+            | HEADER_ALREADY
+            | PACKET_TOO_BIG
+            | BAD_LABEL
+            | TOO_MANY_LABELS
+            | BAD_TAG
+            | TAIL_AFTER_DATA
+            | NO_WRITER
     )
 }
 

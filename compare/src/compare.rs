@@ -7,7 +7,7 @@ use crate::answer::{Side, outside};
 use crate::files;
 use crate::names;
 use crate::random::Random;
-use crate::script::Script;
+use crate::script::{Call, Script};
 use crate::scripts;
 use crate::shrink::{Shrink, shrink};
 
@@ -122,6 +122,9 @@ impl<'a> Comparison<'a> {
             let good = files::good(random);
             self.file(files::damaged(random, &good))?;
             self.file(files::wild(random))?;
+            let tailed = files::tailed(random);
+            self.file(tailed.clone())?;
+            self.script(vec![Call::ResumeFrom(tailed), Call::Data(vec![1]), Call::Finish])?;
             self.script(scripts::random(random, &rows))?;
             self.labels(scripts::labels(random, &rows))?;
             self.samples(scripts::samples(random))?;

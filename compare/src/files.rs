@@ -111,8 +111,8 @@ fn random_chunk(random: &mut Random) -> Vec<u8> {
     }
 }
 
-/// A file that is sound to its audio, of random chunks.
-pub fn good(random: &mut Random) -> Vec<u8> {
+/// Random chunks as they may stand before the data.
+fn front(random: &mut Random) -> Vec<u8> {
     let mut file = HEADS[0].to_vec();
     let numbers =
         [LPCM, random.below(4) as u32, random.below(30) as u32, 1, random.below(9) as u32, random.pick(&[16, 24, 32])];
@@ -123,10 +123,31 @@ pub fn good(random: &mut Random) -> Vec<u8> {
         let name = random.pick(&[*b"chan", *b"free", *b"info", *b"uuid"]);
         file.extend(chunk(&name, size as i64, &body));
     }
+    file
+}
+
+/// A file that is sound to its audio, of random chunks.
+pub fn good(random: &mut Random) -> Vec<u8> {
+    let mut file = front(random);
     let size = random.below(40);
     let body = random.bytes(size);
     let declared = if random.one_in(2) { -1 } else { size as i64 + 4 };
     file.extend(chunk(b"data", declared, &[&[0; 4], &body[..]].concat()));
+    file
+}
+
+/// The same with closed data and chunks after them, of which some are cut or are none.
+pub fn tailed(random: &mut Random) -> Vec<u8> {
+    let mut file = front(random);
+    let size = random.below(40);
+    let body = random.bytes(size);
+    file.extend(chunk(b"data", size as i64 + 4, &[&[0; 4], &body[..]].concat()));
+    for _ in 0..1 + random.below(3) {
+        file.extend(random_chunk(random));
+    }
+    if random.one_in(4) {
+        file.truncate(file.len() - random.below(12));
+    }
     file
 }
 

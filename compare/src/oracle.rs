@@ -16,7 +16,7 @@ use oracle::caf::{self, CAFFileInfo, CAFWriter, ChannelLayout, Endianness, PCMDa
 
 use crate::answer::*;
 use crate::names;
-use crate::script::{Call, Past, Script};
+use crate::script::{Call, Past, Script, tail_outside};
 
 /// What the reads of `parse_caf_file` tell: a type is 4 bytes and its size 8, so a read of 8 after one of 4 ends a
 /// chunk header; a read of 8 after one of 8 is a rate, and six reads of 4 end its body.
@@ -252,6 +252,11 @@ impl Session {
 
     /// A refused resume leaves a fresh writer on an empty file.
     fn resume(&mut self, file: Vec<u8>) -> (u32, u64) {
+        let reading = Rust.parse(&file);
+        if let Some(number) = reading.found.and_then(|found| tail_outside(&file, &found)) {
+            *self = Session::new();
+            return (number, reading.chunks);
+        }
         let disk = Shared::new(file);
         let resumed = CAFWriter::from_existing_file(disk.clone());
         let (resumed, writer) = match resumed {

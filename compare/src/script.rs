@@ -37,6 +37,9 @@ pub enum Call {
 
 pub type Script = Vec<Call>;
 
+/// The bytes of a data chunk before its audio.
+const EDIT_COUNT: u64 = 4;
+
 /// What decides whether a call lies in 01's domain, beside its arguments.
 #[derive(Clone, Copy, Default)]
 pub struct Past {
@@ -50,7 +53,7 @@ pub struct Past {
 
 impl Past {
     /// The number that 01 gives a call outside the domain of equality; none inside.
-    /// What a resume finds in the file is not judged here.
+    /// What a resume finds in the file is not judged here, but by `tail_outside`.
     pub fn outside(&self, call: &Call) -> Option<u32> {
         if self.no_writer && !matches!(call, Call::Resume | Call::ResumeFrom(_)) {
             return Some(NO_WRITER);
@@ -130,6 +133,18 @@ fn labels_outside(labels: &[u32], channels: u32) -> Option<u32> {
     }
     let unknown = labels.iter().any(|&number| names::label(number).is_none());
     unknown.then_some(BAD_LABEL)
+}
+
+/// The number that 02, T-05 gives a resume of a file that the plain reading finds: its data size is too small for the edit count,
+/// or it ends before the file does. A negative size, or one that reaches the end, is in the domain.
+pub fn tail_outside(file: &[u8], found: &Found) -> Option<u32> {
+    let place = found.size_position as usize;
+    let size = u64::from_be_bytes(file[place..place + 8].try_into().expect("eight bytes of size"));
+    let left = file.len() as u64 - (found.data_start - EDIT_COUNT);
+    if size < EDIT_COUNT {
+        return Some(BAD_SIZE);
+    }
+    (size < left).then_some(TAIL_AFTER_DATA)
 }
 
 /// An upper bound for the file that a script can leave.

@@ -215,6 +215,25 @@ fn full_disk() {
     );
 }
 
+/// What stands after the data, to a resume: the Rust appends after it, and finish counts it as audio.
+fn tails() {
+    println!("Chunks after the data");
+    let info = chunk(b"info", 5, b"title");
+    let with = |size: i64, after: &[u8]| [HEADS[0], &chunk(b"data", size, &[0; 4]), after].concat();
+    for (what, file) in [
+        ("data of size 0", with(0, &[])),
+        ("data of size 4, and one byte more", with(4, &[7])),
+        ("data of size 4, and info after it", with(4, &info)),
+    ] {
+        let length = file.len();
+        let file = file_after(file, |memory| {
+            let mut writer = CAFWriter::from_existing_file(memory).expect("a resumed writer");
+            writer.finish().expect("finish");
+        });
+        say(&format!("{what}, {length} bytes: resume, finish"), format!("size field {}", hex(&file[12..20])));
+    }
+}
+
 fn two_sizes(file: &[u8]) -> String {
     format!("file {}, first size field {}, second {}", file.len(), hex(&file[56..64]), hex(&file[124..132]))
 }
@@ -232,6 +251,7 @@ fn main() {
             reading();
             settings();
             writing();
+            tails();
         }
     }
 }

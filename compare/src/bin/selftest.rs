@@ -23,6 +23,8 @@ enum Lie {
     LowByteFirst,
     /// a second finish is refused
     SecondFinish,
+    /// chunks after the data are taken for audio, as the text has it
+    TailResumed,
     /// bytes per packet rounded down for bits that are no whole bytes, as the text has it
     RoundedDown,
     /// the old size is kept after a resume, as the text has it
@@ -67,6 +69,7 @@ impl Side for Liar {
         for (call, step) in script.iter().zip(&mut steps) {
             match (self.0, call) {
                 (Lie::CountAfterResume, Call::Resume) if step.number == DONE => step.data_count = past,
+                (Lie::TailResumed, Call::ResumeFrom(_)) if step.number == TAIL_AFTER_DATA => step.number = DONE,
                 (Lie::LowByteFirst, Call::Cut(..)) if step.number == DONE => {
                     let end = step.file.len();
                     if end > 11 && step.file[end - 12..end - 4] == [0, 0, 0, 0, 0, 0, 0, 0xff] {
@@ -101,6 +104,7 @@ fn main() {
         Lie::CountAfterResume,
         Lie::LowByteFirst,
         Lie::SecondFinish,
+        Lie::TailResumed,
         Lie::RoundedDown,
         Lie::OldSize,
     ] {

@@ -104,16 +104,23 @@ const DESC: usize = 2;
 
 const DATA: usize = 10;
 
-fn run(slots: &[u8], file: &mut [u8]) {
-    word(b"-");
-    line(slots, file, 0);
-    lines(slots, file, b"", 0);
-    begun(slots, file);
+// The lines of the files that begin with a file header and a `desc`, and of those that go on after closed data.
+fn described(slots: &[u8], file: &mut [u8])
+    ensures { λ _. ⌜ length (now (file .exit)) ≡ length (now (file .entry)) ⌝ }
+{
     let header = put(slots, HEADER, file, 0);
     let at = put(slots, DESC, file, header);
     lines(slots, file, b"ac", at);
     let tail = put(slots, DATA, file, at);
     lines(slots, file, b"ack", tail);
+}
+
+fn run(slots: &[u8], file: &mut [u8]) {
+    word(b"-");
+    line(slots, file, 0);
+    lines(slots, file, b"", 0);
+    begun(slots, file);
+    described(slots, file);
 }
 
 fn main() {
