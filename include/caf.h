@@ -134,8 +134,8 @@ enum caf_feeder_place {
 uint32_t caf_feed_begin(uint64_t *feeder, size_t feeder_len);
 
 /* Feeds a block. Writes the next record, also where it gives a refusal: one that the bytes so far are
- * enough for (2, 4, 5, 6, 7 or 23), or CAF_TOO_LONG for more than 2^63 - 1 bytes in all. After a refusal
- * further blocks change nothing and give the same number. */
+ * enough for (2, 4, 5, 6, 7 or 23), or CAF_TOO_LONG for more than 2^63 - 1 bytes in all. After a
+ * refusal further blocks change nothing and give the same number. */
 uint32_t caf_feed(uint64_t *feeder, size_t feeder_len, const uint8_t *block, size_t block_len);
 
 /* The answer for all that was fed; fills out as caf_read_strict does. The record is only read, so

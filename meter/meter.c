@@ -4,10 +4,10 @@
  *
  * A line for each file: its number, the chunk headers met, payload bytes, frames, open or closed, and
  * its name. A refused file has its number and name and bills nothing. Nor does a closed file without
- * payload where more bytes follow: a writer that was killed leaves a size field that says no samples
- * came, and its samples, if they are silence, read as chunks. It is reported on standard error. The last
- * line is the total, in 64 bits. A file that can't be read is reported on standard error too, and the
- * others are still metered.
+ * payload where more bytes follow its data: a writer that was killed leaves a size field which says
+ * that no samples came, and its samples, if they are silence, read as chunks. Its line has `unbilled`,
+ * and standard error says why. The last line is the total, in 64 bits. A file that can't be read is
+ * reported on standard error and the others are still metered.
  *
  * Exit status: 0 every file was billed; 1 some were not, or could not be read; 2 no file was named, or
  * the total would not fit. */
