@@ -276,6 +276,34 @@ static void random_records(void) {
     }
 }
 
+/* The example's film with some bytes more and every size near those that decide: too small for the edit count, ending before the file
+ * does, or going to its end and past it. */
+static void tails(void) {
+    static const uint64_t negative[3] = {UINT64_MAX, UINT64_MAX - 11, (uint64_t)1 << 63};
+    struct lent film;
+    uint64_t len, size, near, out[CAF_RESUME_COUNTED_PLACES];
+
+    fresh(&film);
+    HOLDS(call_on(configure, &film, CAF_RECORD, ROOM) == CAF_DONE && call_on(caf_write_header, &film, CAF_RECORD, ROOM) == CAF_DONE);
+    HOLDS(call_on(packed, &film, CAF_RECORD, ROOM) == CAF_DONE);
+    for (len = FILM; len < FILM + 20; len++) {
+        uint64_t r = len - SIZE_FIELD - 8;
+        for (near = 0; near < r + 6; near++) {
+            struct lent at = film;
+            uint32_t want;
+            size = near < r + 3 ? near : negative[near - r - 3];
+            want = size < 4 ? CAF_BAD_SIZE : size < r ? CAF_TAIL_AFTER_DATA : CAF_DONE;
+            for (int i = 0; i < 8; i++)
+                at.buf[SIZE_FIELD + i] = (uint8_t)(size >> (56 - 8 * i));
+            HOLDS(resume_counted_on(&at, len, 0, at.buf, out, CAF_RESUME_COUNTED_PLACES) == want);
+            HOLDS(out[CAF_RESUME_COUNTED_FILE_LEN] == len && out[CAF_RESUME_COUNTED_CHUNKS] == 3);
+            if (want != CAF_DONE)
+                HOLDS(resume_counted_on(&at, len, 8, at.buf, out, CAF_RESUME_COUNTED_PLACES) == want && out[CAF_RESUME_COUNTED_STORES] == 0);
+            HOLDS(resume_on(&at, len, CAF_RECORD, 1) == want && at.out[0] == 3);
+        }
+    }
+}
+
 /* The example fed, and the feeding record with no elements, with a place too few or too many, and made up. */
 static void feeders(void) {
     static const uint8_t front[20] = {'c', 'a', 'f', 'f', 0, 1, 0, 0, 'd', 'e', 's', 'c', 0, 0, 0, 0, 0, 0, 0, 32};
@@ -330,6 +358,7 @@ int main(void) {
     example();
     packets();
     resumes();
+    tails();
     random_records();
     feeders();
     printf("bad_input: %lu checks hold\n", checks);
