@@ -136,9 +136,11 @@ pub fn good(random: &mut Random) -> Vec<u8> {
     file
 }
 
-/// The same with closed data and chunks after them, of which some are cut or are none.
+/// The same with closed data and chunks after them, of which some are cut or are none. The data size may be another, near those
+/// that decide what a resume makes of it.
 pub fn tailed(random: &mut Random) -> Vec<u8> {
     let mut file = front(random);
+    let size_place = file.len() + 4;
     let size = random.below(40);
     let body = random.bytes(size);
     file.extend(chunk(b"data", size as i64 + 4, &[&[0; 4], &body[..]].concat()));
@@ -147,6 +149,11 @@ pub fn tailed(random: &mut Random) -> Vec<u8> {
     }
     if random.one_in(4) {
         file.truncate(file.len() - random.below(12));
+    }
+    if random.one_in(2) {
+        let left = (file.len() - size_place - 8) as i64;
+        let size = random.pick(&[0, 3, 4, left - 1, left, left + 1, -1, i64::MIN]);
+        file[size_place..size_place + 8].copy_from_slice(&size.to_be_bytes());
     }
     file
 }
