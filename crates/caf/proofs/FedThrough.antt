@@ -18,7 +18,6 @@ use Rattle.feeding.specs.Feed.{numberAt, feedBytes, feed, feedAll}
 use Rattle.feeding.specs.End.{end}
 use Rattle.feeding.specs.declared.Phase.{Phase}
 use Rattle.feeding.specs.declared.Phase.the-variants.{FileHeader, FirstHeader, Desc, Header, Skipping, Edit, OpenData, ClosedData, Refused}
-use Rattle.feeding.specs.declared.DataChunk.{DataChunk}
 use Rattle.feeding.specs.declared.DataChunk.the-variants.{Ahead, Passed}
 use Rattle.feeding.specs.declared.Feeder.{Feeder}
 use Rattle.feeding.specs.declared.Fed.{Fed}

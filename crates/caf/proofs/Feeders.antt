@@ -2,11 +2,11 @@
 use mathlib.Core.Path.{_≡_, refl, sym, _∙_, ap}
 use mathlib.Core.Bool.{true, false, cond}
 use mathlib.Core.List.{List, [], _∷_, _++_}
-use Prim.Native.Nat.{ℕ, _<_, _≤_, _^_}
+use Prim.Native.Nat.{ℕ, _<_, _^_}
 use native.Mathlib.Omega.{arith}
 use lib.Dec.{leb, eqb}
 use lib.ListN.{length, getD, take, drop}
-use borrow.Author.Tests.{eqb-true, leb-true, ltb-true, eq-eqb, ne-eqb}
+use borrow.Author.Tests.{eqb-true, ltb-true, eq-eqb, ne-eqb}
 use Rattle.answers.specs.Numbers.{badWriter}
 use Rattle.byteorder.specs.Big.{bigAt, bigBytes}
 use Rattle.byteorder.specs.Splice.{splice, storeFirst}
