@@ -300,7 +300,7 @@ static void places(void) {
     begin();
     chunk("data", NULL, 10, 10);
     chunk("chan", two.bytes, two.len, two.len);
-    HOLDS(nowhere(file.len));
+    HOLDS(strict() == CAF_DONE && nowhere(file.len));
 
     /* sizes that no file has */
     begin();
