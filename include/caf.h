@@ -4,7 +4,8 @@
  * too. Slices that one call is lent must not overlap where the call writes to one of them, and
  * nothing else may change them while the call runs. Every call takes any counts and any contents.
  *
- * Every call gives back a number: CAF_DONE, or the refusal that applies first. */
+ * Every call gives back a number: CAF_DONE, or the refusal that applies first. No call takes more than
+ * CAF_STACK bytes of stack. */
 #ifndef CAF_H
 #define CAF_H
 
@@ -43,6 +44,10 @@ enum caf_number {
     CAF_SECOND_DATA = 23,
     CAF_TAIL_AFTER_DATA = 24
 };
+
+/* Bytes of stack that a caller must have left, on x86-64 and on aarch64. tests/stack prints what each
+ * call takes. */
+enum { CAF_STACK = 4096 };
 
 /* ---- the readings */
 
