@@ -4,6 +4,7 @@
 unsafe extern "C" {
     fn caf_parse(file: *const u8, file_len: usize, out: *mut u64, out_len: usize) -> u32;
     fn caf_read_strict(file: *const u8, file_len: usize, out: *mut u64, out_len: usize) -> u32;
+    fn caf_layout_for_labels(labels: *const u32, count: usize, out: *mut u64, out_len: usize) -> u32;
     fn caf_pack_24(samples: *const i32, count: usize, little: bool, out: *mut u8, out_len: usize) -> u32;
     fn caf_new(record: *mut u64, record_len: usize) -> u32;
     fn caf_set_format(
@@ -60,6 +61,13 @@ pub fn strict(file: &[u8]) -> (u32, [u64; PLACES]) {
     let mut found = [0; PLACES];
     let number = unsafe { caf_read_strict(file.as_ptr(), file.len(), found.as_mut_ptr(), PLACES) };
     (number, found)
+}
+
+/// The tag for these labels, or 0.
+pub fn layout_tag(labels: &[u32]) -> u64 {
+    let mut found = [0; 2];
+    assert_eq!(unsafe { caf_layout_for_labels(labels.as_ptr(), labels.len(), found.as_mut_ptr(), 2) }, 0);
+    found[1]
 }
 
 pub fn pack(samples: &[i32], little: bool, out: &mut [u8]) -> u32 {

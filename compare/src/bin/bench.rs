@@ -18,7 +18,7 @@ use harness::files::{HEADS, chunk, format_body};
 use harness::known;
 use harness::oracle::Rust;
 use linked::{Feeder, Writer};
-use oracle::caf::{CAFWriter, ChannelLabel, Endianness, PCMDataType, parse_caf_file};
+use oracle::caf::{CAFWriter, ChannelLabel, ChannelLayoutTag, Endianness, PCMDataType, parse_caf_file};
 
 const RUNS: usize = 11;
 const REGION: usize = 16 << 20;
@@ -229,6 +229,31 @@ fn data(size: usize) {
     );
 }
 
+/// The tag for labels that the first row has, the last, and none.
+fn lookups() {
+    use ChannelLabel::*;
+    const TIMES: usize = 20_000;
+    let last = [Center, Left, Right, LeftSurround, RightSurround, RearSurroundLeft, RearSurroundRight, CenterSurround];
+    let mut none = last;
+    none.reverse();
+    for (what, labels) in [("the first row", &[Center][..]), ("the last row", &last), ("no row", &none)] {
+        let numbers: Vec<_> = labels.iter().map(|&label| label as u32).collect();
+        let tag = ChannelLayoutTag::for_channel_labels(labels).map_or(0, |tag| tag as u64);
+        assert_eq!(linked::layout_tag(&numbers), tag);
+        let ours = || {
+            for _ in 0..TIMES {
+                black_box(linked::layout_tag(black_box(&numbers)));
+            }
+        };
+        let rust = || {
+            for _ in 0..TIMES {
+                black_box(ChannelLayoutTag::for_channel_labels(black_box(labels)));
+            }
+        };
+        race(&format!("labels of {what} looked up"), TIMES, vec![("ours", Box::new(ours)), ("Rust", Box::new(rust))]);
+    }
+}
+
 /// From a fresh writer to a closed file of one frame.
 fn clip() {
     const TIMES: usize = 5_000;
@@ -344,6 +369,7 @@ fn main() {
     for size in [4 << 10, 64 << 10, 1 << 20] {
         data(size);
     }
+    lookups();
     clip();
     blocks();
     stream(4 << 30, 64 << 10);
