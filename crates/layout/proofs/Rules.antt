@@ -17,7 +17,7 @@ use Rattle.layout.specs.Order.{orderFor}
 use Rattle.layout.specs.Claims.{RowRules, EachRow, ThreeShadowed}
 use Rattle.layout.proofs.Every.{every, each, both}
 
-isOrder : Option (List ℕ) → List ℕ → Bool
+pub isOrder : Option (List ℕ) → List ℕ → Bool
 isOrder none ls = false
 isOrder (some o) ls = exactly o ls
 
@@ -26,11 +26,11 @@ unfolding isOrder
 is-order none ls h = cc
 is-order (some o) ls h = ap some (exactly-eq o ls h)
 
-abbrev rulesTest : StandardLayout → Bool
+abbrev pub rulesTest : StandardLayout → Bool
 rulesTest r =
     knownTag (r .tag) && (allKnown (r .order) && (eqb (length (r .order)) (tag.channels (r .tag)) && (leb (length (r .order)) rowPlaces && isOrder (orderFor (r .tag)) (r .order))))
 
-rules : (r : StandardLayout) → rulesTest r ≡ true → RowRules r
+pub rules : (r : StandardLayout) → rulesTest r ≡ true → RowRules r
 rules r h =
     let h1 = both (knownTag (r .tag)) _ h in
     let h2 = both (allKnown (r .order)) _ (h1 .1) in
@@ -44,7 +44,7 @@ rules r h =
       led-back = is-order (orderFor (r .tag)) (r .order) (h4 .1);
     }
 
-table-rules : every rulesTest standardLayouts ≡ true
+pub table-rules : every rulesTest standardLayouts ≡ true
 unfolding standardLayouts knownLabel knownTag orderFor isOrder
 table-rules = refl
 

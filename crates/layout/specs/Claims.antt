@@ -10,6 +10,7 @@ use Rattle.layout.specs.Known.{knownTag, allKnown}
 use Rattle.layout.specs.Table.{StandardLayout, standardLayouts, beyond, rowPlaces}
 use Rattle.layout.specs.Search.{layoutFor, hasTag}
 use Rattle.layout.specs.Order.{orderFor}
+use Rattle.layout.specs.Searched.{silent}
 
 -- a row's tag and labels are among the 50 and the 47; it has as many labels as its tag tells, of which the code's row has room for
 -- all; and its tag leads back to its own order
@@ -28,6 +29,6 @@ abbrev pub shadowed : List StandardLayout → List ℕ
 shadowed [] = []
 shadowed (r ∷ rs) = cond (hasTag (layoutFor (r .order)) (r .tag)) (shadowed rs) (r .tag ∷ shadowed rs)
 
--- behind Pentagonal, Quadraphonic and Hexagonal
+-- no more and no fewer than those that are left out of the search
 abbrev pub ThreeShadowed : Type 0
-ThreeShadowed = shadowed standardLayouts ≡ tag.«MPEG_5_0_B» ∷ tag.«ITU_2_2» ∷ tag.«DVD_20» ∷ []
+ThreeShadowed = shadowed standardLayouts ≡ silent

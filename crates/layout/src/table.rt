@@ -28,9 +28,15 @@ use crate::label::XYX;
 use crate::label::XYY;
 use crate::tag;
 ghost use mathlib.Core.Path.{_≡_};
-ghost use Rattle.layout.specs.Table.{rowAt};
+ghost use Prim.Native.Nat.{_<_};
+ghost use lib.ListN.{getD};
+ghost use Rattle.layout.specs.Table.{beyond, row, rowAt};
+ghost use Rattle.layout.specs.Searched.{searched};
 
 pub const ROWS: usize = 43;
+
+// Those that are searched (document 02, T-07): three never answer, since an earlier row has the same labels.
+pub(crate) const SEARCHED: usize = 40;
 
 const MONO: Row = Row {
     tag: tag::MONO,
@@ -347,4 +353,28 @@ pub fn row_at(i: usize) -> Row
         42 => AAC_OCTAGONAL,
         _ => NO_ROW,
     }
+}
+
+// After MPEG_5_0_A, ITU_2_1 and DVD_18 one row each is passed over: MPEG_5_0_B, ITU_2_2 and DVD_20.
+fn place_of(i: usize) -> usize
+    requires { ⌜ i < 40 ⌝ }
+    ensures { λ r. ⌜ rowAt r ≡ row (getD searched i beyond) ⌝ }
+{
+    if i < 16 {
+        return i;
+    }
+    if i < 29 {
+        return i + 1;
+    }
+    if i < 35 {
+        return i + 2;
+    }
+    i + 3
+}
+
+pub(crate) fn searched_at(i: usize) -> Row
+    requires { ⌜ i < 40 ⌝ }
+    ensures { λ r. ⌜ r ≡ row (getD searched i beyond) ⌝ }
+{
+    row_at(place_of(i))
 }
