@@ -3,13 +3,13 @@ use mathlib.Core.Path.{_≡_, refl, sym, _∙_, ap}
 use mathlib.Core.Bool.{Bool, true, false, cond, not, _||_, true≢false}
 use mathlib.Core.List.{List, [], _∷_}
 use mathlib.Core.Logic.{_⊎_, inl, inr}
-use Prim.Native.Nat.{ℕ, zero, suc, _+_, _<_}
+use Prim.Native.Nat.{ℕ, zero, suc, _+_, _<_, _≤_}
 use native.Mathlib.Nat.{add-zero, zero-add}
 use native.Mathlib.Omega.{arith}
 use lib.ListN.{length, getD, drop}
 use lib.Seq.{drop-cons}
 use lib.Dec.{eqb, ltb}
-use borrow.Author.Tests.{eqb-true}
+use borrow.Author.Tests.{eqb-true, ltb-true, ltb-false}
 use Rattle.byteorder.specs.Same.{exactly}
 use Rattle.byteorder.proofs.Same.{exactly-eq}
 use Rattle.layout.specs.Known.{among}
@@ -114,7 +114,7 @@ others-answer =
     }
 
 -- where the row that is searched at place i stands in the table, as the code finds it
-abbrev pub placeOf : ℕ → ℕ
+abbrev placeOf : ℕ → ℕ
 placeOf i = cond (ltb i 16) i (cond (ltb i 29) (i + 1) (cond (ltb i 35) (i + 2) (i + 3)))
 
 listed : (ℕ → StandardLayout) → ℕ → ℕ → List StandardLayout
@@ -131,11 +131,21 @@ searched-listed : listed (λ i. getD standardLayouts (placeOf i) beyond) 0 40 �
 unfolding searched standardLayouts listed
 searched-listed = refl
 
-pub searched-place : (i r : ℕ) → i < 40 → r ≡ placeOf i → rowAt r ≡ row (getD searched i beyond)
-searched-place i r h e =
+place-row : (i : ℕ) → i < 40 → rowAt (placeOf i) ≡ row (getD searched i beyond)
+place-row i h =
     let z : 0 + i ≡ i = zero-add i in
     let at : ℕ → StandardLayout = λ j. getD standardLayouts (placeOf j) beyond in
-    ap rowAt e ∙ ap row (ap at (sym z) ∙ sym (listed-at at 0 40 i h) ∙ ap (λ (rs : List StandardLayout). getD rs i beyond) searched-listed)
+    ap row (ap at (sym z) ∙ sym (listed-at at 0 40 i h) ∙ ap (λ (rs : List StandardLayout). getD rs i beyond) searched-listed)
+
+pub searched-place : (i r : ℕ) → i < 40 → (i < 16 → r ≡ i) → (16 ≤ i → i < 29 → r ≡ i + 1) → (29 ≤ i → i < 35 → r ≡ i + 2) → (35 ≤ i → r ≡ i + 3)
+    → rowAt r ≡ row (getD searched i beyond)
+searched-place i r h a b c d = ap rowAt (go (ltb i 16) (ltb i 29) (ltb i 35) refl refl refl) ∙ place-row i h
+  where
+    go : (x y z : Bool) → ltb i 16 ≡ x → ltb i 29 ≡ y → ltb i 35 ≡ z → r ≡ cond x i (cond y (i + 1) (cond z (i + 2) (i + 3)))
+    go true y z e f g = a (ltb-true i 16 e)
+    go false true z e f g = b (ltb-false i 16 e) (ltb-true i 29 f)
+    go false false true e f g = c (ltb-false i 29 f) (ltb-true i 35 g)
+    go false false false e f g = d (ltb-false i 35 g)
 
 -- one turn of the search
 pub next-row : (i : ℕ) (ls : List ℕ) (r : Row) → r ≡ row (getD searched i beyond) → i < 40
