@@ -282,7 +282,8 @@ enum caf_resume_counted_place {
 uint32_t caf_resume_counted(uint8_t *buf, size_t buf_len, uint64_t file_len, uint64_t n,
                             uint64_t *out, size_t out_len);
 
-/* Settings: they write to the record alone.
+/* Settings: they write to the record alone. Once a header stands, also that of a resumed file, they
+ * are refused: CAF_HEADER_ALREADY.
  *
  * Bytes per packet of the format are the bytes that hold `bits` (bits / 8, rounded up) times channels:
  * 20 bits and 2 channels make 6. From 2^32 on: CAF_PACKET_TOO_BIG. Samples are packed in three bytes
@@ -304,7 +305,7 @@ uint32_t caf_write_header(uint64_t *record, size_t record_len, uint8_t *buf, siz
 uint32_t caf_write_data(uint64_t *record, size_t record_len, uint8_t *buf, size_t buf_len,
                         const uint8_t *bytes, size_t byte_count);
 /* Packs the samples, three bytes each in the record's byte order, and stores them at the end of the
- * file. */
+ * file. A resumed file without a format takes none: CAF_NO_FORMAT, also for no samples. */
 uint32_t caf_write_samples(uint64_t *record, size_t record_len, uint8_t *buf, size_t buf_len,
                            const int32_t *samples, size_t sample_count);
 /* Stores the eight bytes of the size field; nothing where the record is finished. */

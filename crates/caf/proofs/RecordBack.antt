@@ -8,6 +8,7 @@ use lib.ListN.{length, getD, take, drop, length-append}
 use lib.Seq.{getD-append-add, getD-drop, take-at}
 use lib.Dec.{leb, eqb}
 use borrow.Author.Tests.{eq-eqb, lt-ltb}
+use Rattle.format.specs.Desc.{TypedFormat}
 use Rattle.format.specs.declared.MaybeFormat.{MaybeFormat}
 use Rattle.format.specs.declared.MaybeFormat.the-variants.{Absent, Present}
 use Rattle.format.specs.declared.Endianness.{Endianness}
@@ -18,7 +19,7 @@ use Rattle.writer.specs.declared.CAFWriter.{CAFWriter}
 use Rattle.feeding.proofs.Soundness.{join}
 use Rattle.caf.specs.FormatNumbers.{flagNumber, formatNumbers, orderNumber}
 use Rattle.caf.specs.RecordNumbers.{at, maybeOf, labelsIn, orderOf, layoutKind, layoutTag, layoutOf, isFlag, isWord, allWords, formatFits, layoutFits, recordNumbers, recordOf, isRecord}
-use Rattle.caf.specs.RecordClaims.{TypedFormat, TypedLayout, TypedWriter, RecordBack}
+use Rattle.caf.specs.RecordClaims.{TypedLayout, TypedWriter, RecordBack}
 use Rattle.caf.proofs.FormatLaws.{length-format, format-back, words}
 
 flag-back : (b : Bool) → eqb (flagNumber b) 1 ≡ b

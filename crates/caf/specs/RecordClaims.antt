@@ -3,9 +3,7 @@ use mathlib.Core.Path.{_≡_}
 use mathlib.Core.Bool.{true}
 use Prim.Native.Nat.{_<_, _^_}
 use lib.ListN.{length}
-use Rattle.format.specs.Desc.{Typed}
-use Rattle.format.specs.declared.MaybeFormat.{MaybeFormat}
-use Rattle.format.specs.declared.MaybeFormat.the-variants.{Absent, Present}
+use Rattle.format.specs.Desc.{TypedFormat}
 use Rattle.layout.specs.Setting.{labelPlaces}
 use Rattle.layout.specs.declared.ChannelLayout.{ChannelLayout}
 use Rattle.layout.specs.declared.ChannelLayout.the-variants.{NoLayout, Tagged, Described}
@@ -14,10 +12,6 @@ use Rattle.caf.specs.RecordNumbers.{recordNumbers, recordOf, allWords, i
 
 -- what a record of the code always is, said of a value here: a format whose fields fit their types if there is one, a tag of 32 bits
 -- if there is one, and 64 label places of 32 bits
-abbrev pub TypedFormat : MaybeFormat → Type 0
-TypedFormat Absent = Unit {0}
-TypedFormat (Present f) = Typed f
-
 abbrev pub TypedLayout : ChannelLayout → Type 0
 TypedLayout NoLayout = Unit {0}
 TypedLayout (Tagged tag) = tag < 2 ^ 32

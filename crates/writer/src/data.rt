@@ -5,10 +5,12 @@ use crate::Wrote;
 use crate::budget::ALL;
 use crate::budget::with_stores;
 use crate::budget::without_stores;
+use crate::header::is_absent;
 use answers::BAD_WRITER;
 use answers::DONE;
 use answers::FILE_MAX;
 use answers::FINISHED;
+use answers::NO_FORMAT;
 use answers::NO_HEADER;
 use answers::NO_ROOM;
 use byteorder::store::store;
@@ -17,7 +19,20 @@ use pcm::sample::SAMPLE_SIZE;
 ghost use mathlib.Core.Path.{_≡_};
 ghost use lib.ListN.{length};
 ghost use Rattle.writer.specs.Outcome.{answer, bufferAfter, counted, bufferCut};
-ghost use Rattle.writer.specs.Data.{dataNumber, dataCall, samplesCall};
+ghost use Rattle.writer.specs.Data.{dataNumber, dataCall, samplesNumber, samplesCall, withoutFormat};
+
+// The number for packing into a file without a format, from the one for as many bytes: NoFormat comes before NoRoom and after the others.
+fn without_format(number: u32) -> u32
+    ensures { λ r. ⌜ r ≡ withoutFormat number ⌝ }
+{
+    if number == DONE {
+        return NO_FORMAT;
+    }
+    if number == NO_ROOM {
+        return NO_FORMAT;
+    }
+    number
+}
 
 impl CAFWriter {
     // The number of a call of n bytes.
@@ -72,6 +87,18 @@ impl CAFWriter {
         }
     }
 
+    // The number of a call of samples that pack into n bytes.
+    fn samples_number(self, room: usize, n: usize) -> u32
+        ensures { λ r. ⌜ r ≡ samplesNumber self room n ⌝ }
+    {
+        let number = self.data_number(room, n);
+        let format = self.format;
+        if is_absent(format) {
+            return without_format(number);
+        }
+        number
+    }
+
     // The bytes of the samples, packed in the record's byte order. n counts bytes.
     pub fn write_pcm_24bit_as_packed_counted(
         self,
@@ -81,7 +108,7 @@ impl CAFWriter {
     ) -> Counted
         ensures { λ r. ⌜ (r ≡ counted n (samplesCall self (length (now (buf .entry))) (now (samples .entry))) self) × (now (buf .exit) ≡ bufferCut n (samplesCall self (length (now (buf .entry))) (now (samples .entry))) (now (buf .entry))) ⌝ }
     {
-        let number = self.data_number(buf.len(), SAMPLE_SIZE * samples.len());
+        let number = self.samples_number(buf.len(), SAMPLE_SIZE * samples.len());
         let len = self.file_len;
         if number != DONE {
             return without_stores(number, len);
