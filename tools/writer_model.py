@@ -54,6 +54,8 @@ class Writer:
     def set_labels(self, labels, channels):
         # 01 counts 47 labels and does not list them, so 16 is not worked out here
         assert all(any(label in order for _, order in ROWS) for label in labels), 'a label that no row has'
+        if self.start is not None:  # 02, T-08: the header settles format and layout
+            return HEADER_ALREADY
         if len(labels) == channels and len(labels) > 64:
             return TOO_MANY_LABELS
         self.chan = chan(labels) if len(labels) == channels else None
@@ -62,6 +64,8 @@ class Writer:
     def configure(self, rate, channels, bits, labels):
         """Format and labels in one call: both or neither. The flags are 0, as in 01's listing: whole numbers, big-endian."""
         packet = -(-bits // 8) * channels  # 02, T-02: rounded up
+        if self.start is not None:
+            return HEADER_ALREADY
         if math.isnan(rate):
             return BAD_RATE
         if packet >= 2 ** 32:
@@ -96,7 +100,16 @@ class Writer:
             return FINISHED
         if self.start is None:
             return NO_HEADER
+        if self.desc is None:  # 02, T-08: of a resumed file alone
+            return NO_FORMAT
         return self.append(pcm.packed(xs, self.order))
+
+    def data(self, s):
+        if self.finished:
+            return FINISHED
+        if self.start is None:
+            return NO_HEADER
+        return self.append(s)
 
     def finish(self):
         if self.start is None:
@@ -114,23 +127,30 @@ PACKETS = [(20, 2), (0, 2), (31, 2 ** 30 - 1), (31, 2 ** 30), (20, 1431655765), 
 def lines():
     w = Writer(bytes([pcm.BYTE] * 100))
 
-    def told(call, number):
+    def told(w, call, number):
         return f'{call} {number}, file {w.length}'
 
-    yield told('configure', w.configure(48000.0, 2, 24, (LEFT, RIGHT)))
-    yield told('header', w.header())
-    yield told('samples', w.samples([1, -1]))
-    yield told('finish', w.finish())
+    yield told(w, 'configure', w.configure(48000.0, 2, 24, (LEFT, RIGHT)))
+    yield told(w, 'header', w.header())
+    yield told(w, 'samples', w.samples([1, -1]))
+    yield told(w, 'finish', w.finish())
     yield 'file' + pcm.hexes(w.room[:w.length])
     yield 'behind' + pcm.hexes(w.room[w.length:])
     for n in 64, 65:
         yield f'labels {n}: {Writer().set_labels((LEFT,) * n, n)}'
     for bits, channels in PACKETS:
-        w = Writer(bytes([pcm.BYTE] * 68))
+        made = Writer(bytes([pcm.BYTE] * 68))
         # no labels for so many channels: no layout
-        number = w.configure(48000.0, channels, bits, ())
-        w.header()
-        yield f'bits {bits} channels {channels}: {number}, packet{pcm.hexes(w.room[36:40])}'
+        number = made.configure(48000.0, channels, bits, ())
+        made.header()
+        yield f'bits {bits} channels {channels}: {number}, packet{pcm.hexes(made.room[36:40])}'
+    yield told(w, 'labels', w.set_labels((LEFT, RIGHT), 2))
+    # resumed: an open file of 24 bytes that has no `desc`, and room for three more
+    bare = Writer(b'caff' + struct.pack('>HH', 1, 0) + b'data' + struct.pack('>qI', -1, 0) + b'???')
+    bare.length = bare.start = 24
+    yield told(bare, 'samples', bare.samples([1]))
+    yield told(bare, 'no samples', bare.samples([]))
+    yield told(bare, 'bytes', bare.data(b'abc'))
 
 
 if __name__ == '__main__':

@@ -1,6 +1,6 @@
 // Writes document 01's example and prints it: 48000 Hz, two channels, 24 bits, Stereo, samples 1 and -1, finished. Each line of a call
 // has its number and the length of the file then. The buffer was lent filled with ee, so the bytes behind the file show that they kept
-// their contents. Then come 01's bound on labels, and bytes per packet as the header has them.
+// their contents. Then come 01's bound on labels, bytes per packet as the header has them, and what a header settles.
 use format::Endianness;
 use format::PCMDataType;
 use layout::label::LEFT;
@@ -83,6 +83,25 @@ fn packets() {
     packet(4294967295, 8);
 }
 
+// What a header settles. The written record takes no setting; a file that is resumed without a format takes bytes, and no samples.
+fn settled(written: CAFWriter) {
+    let labels = [LEFT, RIGHT];
+    told(b"labels", written.set_channel_layout_for_labels(&labels, 2));
+    let mut bare = *b"caff\x00\x01\x00\x00data\xff\xff\xff\xff\xff\xff\xff\xff\x00\x00\x00\x00???";
+    let found = CAFWriter::from_existing_file(&mut bare, 24);
+    let resumed = found.writer;
+    let one = [1i32];
+    told(
+        b"samples",
+        resumed.write_pcm_24bit_as_packed(&mut bare, &one),
+    );
+    told(
+        b"no samples",
+        resumed.write_pcm_24bit_as_packed(&mut bare, &one[..0]),
+    );
+    told(b"bytes", resumed.write_data(&mut bare, b"abc"));
+}
+
 fn main() {
     let mut buf = [BYTE; 100];
     let written = write_example(&mut buf);
@@ -95,4 +114,5 @@ fn main() {
     labels(&row[..64], 64);
     labels(&row, 65);
     packets();
+    settled(written);
 }

@@ -53,6 +53,9 @@ labels-requires-2 c κs = search needs
 packets-requires : tie.Need-packets-requires
 packets-requires c κs = search needs
 
+settled-requires : tie.Need-settled-requires
+settled-requires c κs = search needs
+
 returns : tie.Need-returns
 returns c = search needs
 
@@ -76,4 +79,5 @@ main-spec =
     slice-aggregate-labels-2
     labels-requires-2
     packets-requires
+    settled-requires
     returns)
