@@ -1,6 +1,8 @@
 /* Every exported call with slices of no elements, with room one short, and with records of random numbers, the writer's and the feeder's. What is held: the number
  * is one of the table's and, where it is told here, the right one; a refused call leaves every place that it was lent as it was;
  * places behind a result keep their contents. Under valgrind it also shows that no other byte is touched. */
+#include <math.h>
+
 #include "caf.h"
 #include "holds.h"
 #include "random.h"
@@ -252,6 +254,48 @@ static void no_elements(void) {
         HOLDS(calls[i](NULL, 0, NULL, 0) == CAF_BAD_WRITER);
 }
 
+static uint32_t no_rate(uint64_t *r, size_t rn, uint8_t *b, size_t bn) { (void)b; (void)bn; return caf_set_format(r, rn, NAN, 2, 24, false, false); }
+static uint32_t none_packed(uint64_t *r, size_t rn, uint8_t *b, size_t bn) { return caf_write_samples(r, rn, b, bn, NULL, 0); }
+
+static const writing settings[] = {format, tag, labels, configure, no_rate};
+
+static void none_is_set(struct lent *at) {
+    size_t i;
+
+    for (i = 0; i < sizeof settings / sizeof *settings; i++)
+        HOLDS(call_on(settings[i], at, CAF_RECORD, 0) == CAF_HEADER_ALREADY);
+}
+
+/* The header settles the format: a setting after it is refused, whatever it sets, before and after the finish and in a resumed film. A
+ * resumed file that has no format takes bytes, but no call of samples, also where it brings none. */
+static void settled(void) {
+    static const uint8_t bare[24] = {'c', 'a', 'f', 'f', 0, 1, 0, 0, 'd', 'a', 't', 'a', 255, 255, 255, 255, 255, 255, 255, 255};
+    struct lent at;
+
+    fresh(&at);
+    HOLDS(call_on(no_rate, &at, CAF_RECORD, 0) == CAF_BAD_RATE);
+    HOLDS(call_on(configure, &at, CAF_RECORD, 0) == CAF_DONE && call_on(format, &at, CAF_RECORD, 0) == CAF_DONE);
+    HOLDS(call_on(caf_write_header, &at, CAF_RECORD, ROOM) == CAF_DONE);
+    none_is_set(&at);
+    HOLDS(call_on(packed, &at, CAF_RECORD, ROOM) == CAF_DONE && call_on(caf_finish, &at, CAF_RECORD, ROOM) == CAF_DONE);
+    none_is_set(&at);
+    HOLDS(resume_on(&at, FILM, CAF_RECORD, 1) == CAF_DONE);
+    none_is_set(&at);
+    HOLDS(call_on(packed, &at, CAF_RECORD, ROOM) == CAF_DONE);
+
+    fresh(&at);
+    memcpy(at.buf, bare, sizeof bare);
+    HOLDS(resume_on(&at, sizeof bare, CAF_RECORD, 1) == CAF_DONE);
+    none_is_set(&at);
+    HOLDS(call_on(packed, &at, CAF_RECORD, ROOM) == CAF_NO_FORMAT);
+    HOLDS(call_on(packed, &at, CAF_RECORD, sizeof bare) == CAF_NO_FORMAT);
+    HOLDS(call_on(none_packed, &at, CAF_RECORD, ROOM) == CAF_NO_FORMAT);
+    HOLDS(call_on(data, &at, CAF_RECORD, sizeof bare + 4) == CAF_NO_ROOM);
+    HOLDS(call_on(data, &at, CAF_RECORD, sizeof bare + 5) == CAF_DONE && memcmp(at.buf + sizeof bare, bytes, 5) == 0);
+    HOLDS(call_on(caf_finish, &at, CAF_RECORD, ROOM) == CAF_DONE);
+    HOLDS(call_on(packed, &at, CAF_RECORD, ROOM) == CAF_FINISHED);
+}
+
 /* Records of random numbers, small and large, and records that calls made with one number changed. */
 static void random_records(void) {
     struct lent at;
@@ -359,6 +403,7 @@ int main(void) {
     packets();
     resumes();
     tails();
+    settled();
     random_records();
     feeders();
     printf("bad_input: %lu checks hold\n", checks);
