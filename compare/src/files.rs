@@ -126,6 +126,11 @@ fn front(random: &mut Random) -> Vec<u8> {
     file
 }
 
+/// The shortest file that can be resumed. It has no `desc`.
+pub fn bare() -> Vec<u8> {
+    [HEADS[0], &chunk(b"data", -1, &[0; 4])].concat()
+}
+
 /// A file that is sound to its audio, of random chunks.
 pub fn good(random: &mut Random) -> Vec<u8> {
     let mut file = front(random);

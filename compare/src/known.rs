@@ -1,7 +1,7 @@
 //! A few answers worked out by hand from CAF and 01, which every side has to give before it is compared with another.
 
 use crate::answer::*;
-use crate::files::{HEADS, LPCM, chunk};
+use crate::files::{HEADS, LPCM, bare, chunk};
 use crate::script::Call;
 
 /// 01's example: 48000 Hz, two channels, 24 bits, Stereo, samples 1 and -1, finished.
@@ -48,14 +48,19 @@ pub fn check_all(side: &dyn Side) {
     let last = side.run(&vec![twenty, Call::Header]).pop().expect("two answers");
     check("20 bits of two channels take six bytes", hex(&last.file[36..40]), "00000006".to_string());
 
-    let stereo = Call::Configure { rate: 48000, channels: 2, bits: 24, labels: vec![1, 2] };
-    let resumed = vec![stereo, Call::Header, Call::Data(vec![7]), Call::Finish, Call::Resume, Call::Data(vec![8])];
-    let last = side.run(&resumed).pop().expect("six answers");
-    check("a resumed film is open", hex(&last.file[80..]), "ffffffffffffffff000000000708".to_string());
+    let mut reopened = example_script();
+    reopened.extend([Call::Resume, Call::Data(vec![8])]);
+    let last = side.run(&reopened).pop().expect("six answers");
+    check("a resumed film is open", hex(&last.file[80..]), "ffffffffffffffff00000000000001ffffff08".to_string());
 
-    let bare = Found { format: None, little: false, size_position: 12, data_start: 24 };
-    let audio = [HEADS[0], &chunk(b"data", -1, &[0; 4])].concat();
-    check("audio alone", side.parse(&audio), Reading { number: DONE, chunks: 1, found: Some(bare) });
+    let mut after_header = example_script()[..2].to_vec();
+    after_header.push(Call::Tag(6619138));
+    check("a setting after the header", side.run(&after_header).pop().map(|step| step.number), Some(HEADER_ALREADY));
+
+    let found = Found { format: None, little: false, size_position: 12, data_start: 24 };
+    check("audio alone", side.parse(&bare()), Reading { number: DONE, chunks: 1, found: Some(found) });
+    let resumed = vec![Call::ResumeFrom(bare()), Call::Samples(vec![])];
+    check("samples without a format", side.run(&resumed).pop().map(|step| step.number), Some(NO_FORMAT));
 
     let refused = |number, chunks| Reading { number, chunks, found: None };
     check("a head alone", side.parse(HEADS[0]), refused(NO_DATA, 0));

@@ -267,7 +267,8 @@ impl Session {
         *self = match writer {
             Some(writer) => {
                 disk.put_open();
-                Session { disk, writer: Some(mem::ManuallyDrop::new(writer)), past: self.past, packet: None }
+                let past = Past { formatless: reading.found.is_some_and(|found| found.format.is_none()), ..self.past };
+                Session { disk, writer: Some(mem::ManuallyDrop::new(writer)), past, packet: None }
             }
             None => Session::new(),
         };

@@ -49,6 +49,8 @@ pub struct Past {
     pub no_writer: bool,
     /// a resume put -1 into the size field (02, T-04), and no finish has stored a size since
     pub reopened: bool,
+    /// the resumed file has no `desc`: the side that resumes it says so
+    pub formatless: bool,
 }
 
 impl Past {
@@ -57,6 +59,9 @@ impl Past {
     pub fn outside(&self, call: &Call) -> Option<u32> {
         if self.no_writer && !matches!(call, Call::Resume | Call::ResumeFrom(_)) {
             return Some(NO_WRITER);
+        }
+        if self.header && call.is_setting() {
+            return Some(HEADER_ALREADY);
         }
         match call {
             Call::Format { rate_bits, channels, bits, .. } => {
@@ -71,6 +76,7 @@ impl Past {
                 packet_outside(*channels, *bits).or_else(|| labels_outside(labels, *channels))
             }
             Call::Header => (self.header && !self.finished).then_some(HEADER_ALREADY),
+            Call::Samples(_) => (self.formatless && !self.finished).then_some(NO_FORMAT),
             Call::Cut(call, _) => self.outside(call),
             _ => None,
         }
@@ -89,7 +95,9 @@ impl Past {
         match call {
             Call::Header => self.header = true,
             Call::Finish => *self = Past { finished: true, reopened: false, ..*self },
-            Call::Resume | Call::ResumeFrom(_) => *self = Past { header: true, reopened: true, ..Past::default() },
+            Call::Resume | Call::ResumeFrom(_) => {
+                *self = Past { header: true, reopened: true, formatless: self.formatless, ..Past::default() }
+            }
             Call::Cut(..) => *self = Past { no_writer: true, reopened: self.reopened, ..Past::default() },
             _ => {}
         }
@@ -103,6 +111,16 @@ impl Call {
             return None;
         };
         (bits % 8 != 0).then(|| packet_bytes(*channels, *bits)).and_then(|bytes| u32::try_from(bytes).ok())
+    }
+
+    /// Settings after a header, of a resumed file too, are refused with 12 (02, T-08): the text takes them.
+    pub fn is_setting(&self) -> bool {
+        matches!(self, Call::Format { .. } | Call::Tag(_) | Call::Labels { .. } | Call::Configure { .. })
+    }
+
+    /// The text gives NoFormat to a header call alone. Samples in a file without a format have it from 02 (T-08).
+    pub fn is_outside(&self, number: u32) -> bool {
+        outside(number) || (number == NO_FORMAT && !self.is_header())
     }
 
     pub fn sets_format(&self) -> bool {

@@ -147,7 +147,11 @@ fn sound_setting(random: &mut Random, rows: &[Vec<u32>]) -> Call {
 fn begin(random: &mut Random, rows: &[Vec<u32>], script: &mut Script) {
     if random.one_in(6) {
         let good = files::good(random);
-        script.push(Call::ResumeFrom(if random.one_in(3) { files::damaged(random, &good) } else { good }));
+        script.push(Call::ResumeFrom(match random.below(6) {
+            0 => files::bare(),
+            1 | 2 => files::damaged(random, &good),
+            _ => good,
+        }));
         return;
     }
     script.push(sound_setting(random, rows));

@@ -8,8 +8,8 @@ use std::process::{Command, Stdio};
 use std::time::{Duration, Instant};
 
 use harness::answer::hex;
-use harness::files::{HEADS, LPCM, chunk, format_body};
-use oracle::caf::{CAFFileInfo, CAFWriter, ChannelLabel, parse_caf_file};
+use harness::files::{HEADS, LPCM, bare, chunk, format_body};
+use oracle::caf::{CAFFileInfo, CAFWriter, ChannelLabel, Endianness, PCMDataType, parse_caf_file};
 
 type Memory = Cursor<Vec<u8>>;
 
@@ -139,6 +139,36 @@ fn settings() {
     say("65 labels for 65 channels", format!("chan size {}, file {}", hex(&file[56..64]), file.len()));
 }
 
+/// What the header has settled: the Rust takes a setting after it, and samples where no format says how they lie.
+fn settled() {
+    println!("Once a header stands");
+    let file = file_of(|writer| {
+        stereo(writer);
+        let (kind, order) = (PCMDataType::SignedInteger, Endianness::LittleEndian);
+        writer.set_audio_format_with_options(48000.0, 2, 24, kind, order).expect("a format is always taken");
+        writer.write_pcm_24bit_as_packed(&[1]).expect("a sample");
+    });
+    say(
+        "a big-endian header, then little-endian set, sample 1 (ours: refused 12)",
+        format!("done, flags in desc {}, the sample {}", hex(&file[32..36]), hex(&file[68..])),
+    );
+    let file = file_of(|writer| {
+        stereo(writer);
+        writer.set_channel_layout_for_labels(&[ChannelLabel::Left, ChannelLabel::Right], 2);
+    });
+    let chan = file.windows(4).any(|four| four == b"chan");
+    say("a header, then labels set (ours: refused 12)", format!("done, file {}, with chan: {chan}", file.len()));
+    let file = file_after(bare(), |memory| {
+        let writer = CAFWriter::from_existing_file(memory).expect("a resumed writer");
+        let mut writer = mem::ManuallyDrop::new(writer);
+        writer.write_pcm_24bit_as_packed(&[1]).expect("a sample");
+    });
+    say(
+        "24 bytes without desc resumed, sample 1 (ours: refused 13)",
+        format!("done, file {}, the sample {}", file.len(), hex(&file[24..])),
+    );
+}
+
 fn writing() {
     println!("Writing");
     let file = file_of(stereo);
@@ -250,6 +280,7 @@ fn main() {
         _ => {
             reading();
             settings();
+            settled();
             writing();
             tails();
         }

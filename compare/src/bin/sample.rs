@@ -56,7 +56,7 @@ impl Sample {
     fn script(&mut self, mut script: Script) {
         script.extend(ending(&script));
         let steps = Rust.run(&script);
-        let inside = steps.iter().all(|step| !outside(step.number));
+        let inside = script.iter().zip(&steps).all(|(call, step)| !call.is_outside(step.number));
         let own = script.iter().all(|call| call.rounded_up().is_none());
         if inside && own && !script.is_empty() {
             self.keep(encode::script(&script, &steps));
