@@ -31,8 +31,8 @@ use Rattle.writer.proofs.Tests.{two, true-false}
 use Rattle.writer.proofs.Facts.{headed as headed-of, empty, sound-alone}
 use Rattle.writer.proofs.Kept.{header-allowed}
 use Rattle.writer.proofs.Made.{made-allowed}
-use Rattle.recovery.specs.Calls.{Call, isWriting, set, header, bytes, samples, finish}
-use Rattle.recovery.specs.Session.{Session, start, isAccepted, headed, doCall, run}
+use Rattle.recovery.specs.Calls.{Call, set, header, bytes, samples, finish}
+use Rattle.recovery.specs.Session.{Session, start, isAccepted, doCall, run}
 use Rattle.recovery.specs.Cut.{Remains, stopped, resting, fileOf}
 use Rattle.recovery.specs.Sessions.{CutSession, isWritten, leaves, resumeCut, resumedFrom, afterFirst, afterNext, afterMore, leftBy, begins}
 use Rattle.recovery.specs.Layouts.{bodyOf, ReadAs, SaysLayout, channelsIn, SaysLayoutOf, LayoutReadBack, LayoutRecovered}
@@ -67,25 +67,18 @@ sound-known w h = go (w .layout) h
         let n = leb-true (w .«label_count») labelPlaces (d .0) in
         (rw length-take (omega arith), d .1)
 
--- at every point of a session the record at the header call holds one: a header call that is accepted was made on a sound record
-known-headed : (s : Session) (call : Call) → isAccepted s call ≡ true → KnownIn (s .atHeader) → KnownIn (headed s call)
-unfolding headerCall
-known-headed s (set x) a k = k
-known-headed s header a k =
-    let w = s .writer in
-    let o = stores 0 (headerOf w) (withHeader w (length (headerOf w))) in
-    let p = outcome-is s header (headerNumber w (length (s .buffer))) o refl a in
-    sound-known w (sound-alone w (length (s .buffer)) (header-allowed w (length (s .buffer)) (p .0) .is-sound) .layout)
-known-headed s (bytes bs) a k = k
-known-headed s (samples xs) a k = k
-known-headed s finish a k = k
-
+-- at every point of a session the record at the header call holds one
 known-after : (s : Session) (call : Call) → KnownIn (s .atHeader) → KnownIn (doCall s call .atHeader)
+unfolding headerCall
 known-after s (set x) k = k
 known-after s header k = go (isAccepted s header) refl
   where
     go : (b : Bool) → isAccepted s header ≡ b → KnownIn (cond b (s .writer) (s .atHeader))
-    go true a = known-headed s header a k
+    go true a =
+        let w = s .writer in
+        let o = stores 0 (headerOf w) (withHeader w (length (headerOf w))) in
+        let p = outcome-is s header (headerNumber w (length (s .buffer))) o refl a in
+        sound-known w (sound-alone w (length (s .buffer)) (header-allowed w (length (s .buffer)) (p .0) .is-sound) .layout)
     go false a = k
 known-after s (bytes bs) k = k
 known-after s (samples xs) k = k
@@ -96,16 +89,16 @@ unfolding run
 run-known s [] k = k
 run-known s (call ∷ calls) k = run-known (doCall s call) calls (known-after s call k)
 
--- and of what sessions leave
-leaves-known : (r : Remains) → KnownIn (r .atHeader) → (s : Session) → KnownIn (s .atHeader) → (calls : List Call) (n : ℕ) → KnownIn (leaves r s calls n .atHeader)
+-- and so does what sessions leave: the record at the header call is that of a call that is cut, or that of the session before
+leaves-known : (otherwise : Remains) → KnownIn (otherwise .atHeader) → (s : Session) → KnownIn (s .atHeader) → (calls : List Call) (n : ℕ) → KnownIn (leaves otherwise s calls n .atHeader)
 unfolding leaves
-leaves-known r k s h [] n = k
-leaves-known r k s h (call ∷ calls) n =
-    leaves-known (cond (isWritten s call) (stopped s call n) r) (go (isWritten s call) refl) (doCall s call) (known-after s call h) calls n
+leaves-known otherwise l s k [] n = l
+leaves-known otherwise l s k (call ∷ calls) n =
+    leaves-known (cond (isWritten s call) (stopped s call n) otherwise) (go (isWritten s call)) (doCall s call) (known-after s call k) calls n
   where
-    go : (b : Bool) → isWritten s call ≡ b → KnownIn (cond b (stopped s call n) r .atHeader)
-    go true e = known-headed s call (two (isWriting call) (isAccepted s call) e .1) h
-    go false e = k
+    go : (b : Bool) → KnownIn (cond b (stopped s call n) otherwise .atHeader)
+    go true = known-after s call k
+    go false = l
 
 more-known : (r : Remains) → KnownIn (r .atHeader) → (later : List CutSession) → KnownIn (afterMore r later .atHeader)
 unfolding afterMore
@@ -176,9 +169,8 @@ finished-headed s i f = go (s .writer .«has_header») refl
 
 pub layout-recovered : LayoutRecovered
 layout-recovered buffer sessions t whole =
-    let r = leftBy buffer sessions in
     let u = never-cut buffer sessions t whole in
     let s = run (start (u .buffer)) (u .calls) in
     let h = finished-headed s (runs (start (u .buffer)) (u .calls) (begins-inv (u .buffer))) (u .finished) in
     let says = layout-read-back (u .buffer) [] (u .calls) tt (u .typed) h in
-    subst (SaysLayoutOf (r .atHeader)) (sym (u .same-file)) (subst (λ (w : CAFWriter). SaysLayoutOf w (fileOf (resting s))) (u .same-header) says)
+    subst (SaysLayoutOf (leftBy buffer sessions .atHeader)) (sym (u .same-file)) (subst (λ (w : CAFWriter). SaysLayoutOf w (fileOf (resting s))) (u .same-header) says)
