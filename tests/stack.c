@@ -128,6 +128,7 @@ static uint32_t find_chan(void) { return caf_find_chan(buf, LENGTH, out, CAF_CHA
 static uint32_t read_chan(void) { return caf_read_chan(buf + place[CAF_CHAN_START], place[CAF_CHAN_SIZE], 8, descriptions, 8 * CAF_DESCRIPTION, out, CAF_SAID_PLACES); }
 static uint32_t new(void) { return caf_new(record, CAF_RECORD); }
 static uint32_t resume(void) { return caf_resume(buf, ROOM, LENGTH, record, CAF_RECORD, out, 1); }
+static uint32_t resume_counted(void) { return caf_resume_counted(buf, ROOM, LENGTH, 8, out, CAF_RESUME_COUNTED_PLACES); }
 static uint32_t set_format(void) { return caf_set_format(record, CAF_RECORD, 48000.0, 8, 24, false, true); }
 static uint32_t set_tag(void) { return caf_set_layout_tag(record, CAF_RECORD, 6619138); }
 static uint32_t labels_first(void) { return caf_set_layout_for_labels(record, CAF_RECORD, first, 1, 1); }
@@ -170,6 +171,7 @@ static const struct row {
     {"caf_read_chan", begun_described, read_chan},
     {"caf_new", fresh, new},
     {"caf_resume", filled, resume},
+    {"caf_resume_counted", filled, resume_counted},
     {"caf_set_format", tagged, set_format},
     {"caf_set_layout_tag", tagged, set_tag},
     {"caf_set_layout_for_labels", tagged, labels_first},
