@@ -118,8 +118,9 @@ uint32_t caf_read_strict(const uint8_t *file, size_t file_len, uint64_t *out, si
  * (A read that fails is not the end of a film: look at n before caf_feed_end is believed.)
  *
  * The caller keeps the feeding record, CAF_FEEDER numbers. They are the library's own: the places are
- * named for tests. An array of another length, or one whose numbers no calls make, is an unsound
- * record: CAF_BAD_WRITER, and the array keeps its contents. */
+ * named for tests. An array of another length, or one whose numbers contradict each other
+ * (docs/DECISIONS.md lists what is tested), is an unsound record: CAF_BAD_WRITER, and the array keeps
+ * its contents. Numbers that pass these tests are taken at their word. */
 enum caf_feeder_place {
     CAF_FEEDER_PHASE = 0,     /* 0 to 10: what is waited for; 7 after a refusal */
     CAF_FEEDER_RATE = 1,      /* the format, once it was read, in the order of caf_strict_place */
@@ -253,18 +254,17 @@ enum caf_record_place {
  * nothing. */
 uint32_t caf_new(uint64_t *record, size_t record_len);
 
-/* What can be resumed: a file that the plain reading finds, whose data go to its end. So a data size
- * of -1 or any negative one, and one of r or more, where r counts the bytes from the edit count to the
- * end of the file. 0 to 3: CAF_BAD_SIZE. 4 to r - 1: CAF_TAIL_AFTER_DATA, since what follows the data
- * would be taken for audio. */
-
-/* Resumes the file that stands in the first file_len bytes of the buffer. Done: puts -1 back into the
- * data size field of the file, eight stores from the most significant byte, also where it holds -1
- * already, and writes the record. From then on, until caf_finish, the file reads as open: whatever a
- * host appends before it dies counts as payload. Refused: stores nothing in the buffer and writes a
- * fresh record. In both cases writes the count of chunk headers met to chunks[0]. An array of another
- * length than CAF_RECORD: CAF_BAD_WRITER; then no place for the count: CAF_NO_ROOM; either stores and
- * writes nothing. */
+/* Resumes the file that stands in the first file_len bytes of the buffer. It can be resumed where the
+ * plain reading finds its data and they go to its end: a data size of -1 or any negative one, or one of
+ * r or more, where r counts the bytes from the edit count to the end of the file. 0 to 3:
+ * CAF_BAD_SIZE. 4 to r - 1: CAF_TAIL_AFTER_DATA, since what follows the data would be taken for audio.
+ *
+ * Done: puts -1 back into the data size field of the file, eight stores from the most significant
+ * byte, also where it holds -1 already, and writes the record. From then on, until caf_finish, the
+ * file reads as open: whatever a host appends before it dies counts as payload. Refused: stores
+ * nothing in the buffer and writes a fresh record. In both cases writes the count of chunk headers
+ * met to chunks[0]. An array of another length than CAF_RECORD: CAF_BAD_WRITER; then no place for
+ * the count: CAF_NO_ROOM; either stores and writes nothing. */
 uint32_t caf_resume(uint8_t *buf, size_t buf_len, uint64_t file_len,
                     uint64_t *record, size_t record_len, uint64_t *chunks, size_t chunks_len);
 
