@@ -223,6 +223,32 @@ static void resumes(void) {
     HOLDS(found[CAF_STRICT_OPEN] == 0 && found[CAF_STRICT_PAYLOAD] == 11);
 }
 
+/* 01's limits from both sides: each clause of its sentence on soundness, as a setting reports it. With a header a sound record gives
+ * CAF_HEADER_ALREADY. The last two rows are about the greatest file length. */
+static void limits(void) {
+    static const uint64_t longest = INT64_MAX;
+    const struct { uint64_t header, position, start, len, count, finished; uint32_t number; } rows[] = {
+        {1, 12, 24, 24, 0, 0, CAF_HEADER_ALREADY}, {1, 11, 23, 24, 0, 0, CAF_BAD_WRITER}, {1, 12, 25, 30, 0, 0, CAF_BAD_WRITER},
+        {1, 56, 68, 68, 0, 0, CAF_HEADER_ALREADY}, {1, 56, 68, 67, 0, 0, CAF_BAD_WRITER},
+        {1, 56, 68, 70, 2, 1, CAF_HEADER_ALREADY}, {1, 56, 68, 70, 3, 1, CAF_BAD_WRITER},
+        {0, 56, 68, 0, 0, 0, CAF_DONE}, {0, 0, 0, 1, 0, 0, CAF_BAD_WRITER}, {0, 0, 0, 0, 1, 0, CAF_BAD_WRITER}, {0, 0, 0, 0, 0, 1, CAF_BAD_WRITER},
+        {1, 56, 68, longest, 0, 0, CAF_HEADER_ALREADY}, {1, 56, 68, longest + 1, 0, 0, CAF_BAD_WRITER},
+    };
+    struct lent at;
+    size_t i;
+
+    for (i = 0; i < sizeof rows / sizeof *rows; i++) {
+        fresh(&at);
+        at.record[CAF_RECORD_HAS_HEADER] = rows[i].header;
+        at.record[CAF_RECORD_SIZE_POSITION] = rows[i].position;
+        at.record[CAF_RECORD_DATA_START] = rows[i].start;
+        at.record[CAF_RECORD_FILE_LEN] = rows[i].len;
+        at.record[CAF_RECORD_DATA_COUNT] = rows[i].count;
+        at.record[CAF_RECORD_FINISHED] = rows[i].finished;
+        HOLDS(call_on(tag, &at, CAF_RECORD, 0) == rows[i].number);
+    }
+}
+
 static void no_elements(void) {
     uint64_t out[CAF_STRICT_PLACES], chunks = 77, record[CAF_RECORD];
     size_t i;
@@ -351,6 +377,9 @@ static void tails(void) {
 /* The example fed, and the feeding record with no elements, with a place too few or too many, and made up. */
 static void feeders(void) {
     static const uint8_t front[20] = {'c', 'a', 'f', 'f', 0, 1, 0, 0, 'd', 'e', 's', 'c', 0, 0, 0, 0, 0, 0, 0, 32};
+    static const uint8_t open_film[68] = {
+        'c', 'a', 'f', 'f', 0, 1, 0, 0, 'd', 'e', 's', 'c', 0, 0, 0, 0, 0, 0, 0, 32, 0x40, 0xe7, 0x70, 0, 0, 0, 0, 0, 'l', 'p', 'c', 'm',
+        0, 0, 0, 0, 0, 0, 0, 6, 0, 0, 0, 1, 0, 0, 0, 2, 0, 0, 0, 24, 'd', 'a', 't', 'a', 255, 255, 255, 255, 255, 255, 255, 255, 0, 0, 0, 0};
     uint64_t feeder[CAF_FEEDER], out[CAF_STRICT_PLACES];
     size_t k, len;
     int round;
@@ -369,6 +398,15 @@ static void feeders(void) {
     HOLDS(caf_feed_end(feeder, CAF_FEEDER, out, CAF_STRICT_PLACES) == CAF_CUT_SHORT && out[0] == 1);
     feeder[CAF_FEEDER_CHUNKS] = 2;
     HOLDS(caf_feed(feeder, CAF_FEEDER, front, 20) == CAF_BAD_WRITER && feeder[CAF_FEEDER_TOTAL] == 20);
+
+    /* an open film up to the last byte that a file may have, and one more */
+    HOLDS(caf_feed_begin(feeder, CAF_FEEDER) == CAF_DONE);
+    HOLDS(caf_feed(feeder, CAF_FEEDER, open_film, sizeof open_film) == CAF_DONE && feeder[CAF_FEEDER_TOTAL] == sizeof open_film);
+    feeder[CAF_FEEDER_TOTAL] = INT64_MAX - 1;
+    HOLDS(caf_feed(feeder, CAF_FEEDER, bytes, 1) == CAF_DONE && feeder[CAF_FEEDER_TOTAL] == INT64_MAX);
+    HOLDS(caf_feed_end(feeder, CAF_FEEDER, out, CAF_STRICT_PLACES) == CAF_DONE && out[CAF_STRICT_PAYLOAD] == INT64_MAX - sizeof open_film);
+    HOLDS(caf_feed(feeder, CAF_FEEDER, bytes, 1) == CAF_TOO_LONG);
+    HOLDS(caf_feed_end(feeder, CAF_FEEDER, out, CAF_STRICT_PLACES) == CAF_TOO_LONG);
 
     for (round = 0; round < 2000; round++) {
         uint64_t *made, *kept;
@@ -401,6 +439,7 @@ int main(void) {
     no_elements();
     example();
     packets();
+    limits();
     resumes();
     tails();
     settled();
