@@ -1,7 +1,9 @@
 #!/usr/bin/env python3
-"""Prints what the program layout_rows must print, worked out from the text of the Rust's caf.rs alone.
+"""Prints what the program layout_rows must print, worked out from the text of the Rust's caf.rs alone; or the names and numbers of its
+labels and tags.
 
   tools/layout_rows.py CAF.RS >crates/layout_rows/stdout
+  tools/layout_rows.py --names CAF.RS >tests/names.txt
 
 It reads the numbers of the enums ChannelLabel and ChannelLayoutTag and the rows of STANDARD_LAYOUTS, looks each
 row's labels up as the Rust does (the first equal row, none for no labels), and prints for each row its tag, its labels
@@ -36,10 +38,15 @@ def line(tag, order, rows):
 
 
 def main():
-    text = open(sys.argv[1]).read()
+    text = open(sys.argv[-1]).read()
     labels, tags = numbers(text, 'ChannelLabel'), numbers(text, 'ChannelLayoutTag')
     rows = standard_layouts(text, tags, labels)
     assert (len(labels), len(tags), len(rows)) == (47, 50, 43), 'the text is not the one that document 01 counts'
+    if sys.argv[1] == '--names':
+        for kind, named in ('label', labels), ('tag', tags):
+            for name, number in named.items():
+                print(kind, name, number)
+        return
     for tag, order in rows:
         print(line(tag, order, rows))
     for order in (['Right', 'Left'], [], ['Mono']):
