@@ -2,7 +2,8 @@
  *
  * A slice is a pointer and a count of elements. With a count of 0 the pointer may be anything, NULL
  * too. Slices that one call is lent must not overlap where the call writes to one of them, and
- * nothing else may change them while the call runs. Every call takes any counts and any contents.
+ * nothing else may change them while the call runs. Every call takes any contents and any count that an
+ * array can have: elements times their size stay below 2^63 bytes.
  *
  * Every call gives back a number: CAF_DONE, or the refusal that applies first. No call takes more than
  * CAF_STACK bytes of stack. */
