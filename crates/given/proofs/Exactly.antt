@@ -1,6 +1,7 @@
 -- The calls answer by the rows, and by no others.
 use Rattle.given.specs.Claims.{GivenExactly}
 use Rattle.given.proofs.Writing.{header-gives, header-row, finish-gives, finish-row, data-gives, data-row, samples-gives, samples-row}
+use Rattle.given.proofs.Resume.{resume-gives, resume-row}
 use Rattle.given.proofs.Settings.{setting-gives, setting-row, format-gives, format-row, tag-gives, tag-row, labels-gives, labels-row, configure-gives, configure-row}
 use Rattle.given.proofs.Samples.{pack-gives, pack-row, unpack-gives, unpack-row}
 
@@ -11,6 +12,7 @@ given-exactly =
       bytes = λ w room n number. (λ e. rw e at (data-gives w room n), data-row w room n number);
       samples = λ w room n number. (λ e. rw e at (samples-gives w room n), samples-row w room n number);
       finish = λ w room number. (λ e. rw e at (finish-gives w room), finish-row w room number);
+      resume = λ buf len number. (λ e. rw e at (resume-gives buf len), resume-row buf len number);
       setting = λ w own number. (λ e. rw e at (setting-gives w own), setting-row w own number);
       format = λ rate channels bits number. (λ e. rw e at (format-gives rate channels bits), format-row rate channels bits number);
       tag = λ t number. (λ e. rw e at (tag-gives t), tag-row t number);

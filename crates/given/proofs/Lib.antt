@@ -1,5 +1,6 @@
 pub mod Facts
 pub mod Writing
+pub mod Resume
 pub mod Settings
 pub mod Samples
 pub mod Exactly

@@ -14,15 +14,17 @@ use Rattle.pcm.specs.Unpacking.{unpackNumber}
 use Rattle.writer.specs.Header.{headerNumber}
 use Rattle.writer.specs.Data.{dataNumber, samplesNumber}
 use Rattle.writer.specs.Finish.{finishNumber}
+use Rattle.writer.specs.Resume.{resumed}
 use Rattle.writer.specs.Settings.{settingNumber, first}
 use Rattle.writer.specs.declared.CAFWriter.{CAFWriter}
-use Rattle.given.specs.Rows.{HeaderGives, DataGives, SamplesGives, FinishGives, SettingGives, FormatGives, TagGives, LabelsGives, ConfigureGives, PackGives, UnpackGives}
+use Rattle.given.specs.Rows.{HeaderGives, DataGives, SamplesGives, FinishGives, ResumeGives, SettingGives, FormatGives, TagGives, LabelsGives, ConfigureGives, PackGives, UnpackGives}
 
 pub record GivenExactly : Type 0 where
   pub header : (w : CAFWriter) (room number : ℕ) → (headerNumber w room ≡ number) ↔ HeaderGives w room number
   pub bytes : (w : CAFWriter) (room n number : ℕ) → (dataNumber w room n ≡ number) ↔ DataGives w room n number
   pub samples : (w : CAFWriter) (room n number : ℕ) → (samplesNumber w room n ≡ number) ↔ SamplesGives w room n number
   pub finish : (w : CAFWriter) (room number : ℕ) → (finishNumber w room ≡ number) ↔ FinishGives w room number
+  pub resume : (buf : List ℕ) (len number : ℕ) → (resumed buf len .number ≡ number) ↔ ResumeGives buf len number
   pub setting : (w : CAFWriter) (own number : ℕ) → (settingNumber w own ≡ number) ↔ SettingGives w own number
   pub format : (rate : Float) (channels bits number : ℕ) → (formatNumber rate channels bits ≡ number) ↔ FormatGives rate channels bits number
   pub tag : (t number : ℕ) → (tagNumber t ≡ number) ↔ TagGives t number

@@ -4,15 +4,20 @@ use Prim.Native.Nat.{ℕ, _+_, _*_, _/_, _%_, _^_, _<_, _≤_}
 use mathlib.Core.Path.{_≡_}
 use mathlib.Core.Bool.{true, false}
 use mathlib.Core.List.{List}
-use lib.ListN.{length}
+use lib.ListN.{length, take}
 use lib.Ieee.{Float}
-use Rattle.answers.specs.Numbers.{done, badRate, finished, noHeader, headerAlready, noFormat, noRoom, packetTooBig, badLabel, tooManyLabels, badTag, badWriter, oddLength, fileMax}
+use Rattle.answers.specs.Numbers.{done, badSize, badRate, finished, noHeader, headerAlready, noFormat, noRoom, packetTooBig, badLabel, tooManyLabels, badTag, badWriter, oddLength, tailAfterData, fileMax}
+use Rattle.byteorder.specs.Big.{bigAt}
 use Rattle.byteorder.specs.Rate.{notANumber}
 use Rattle.format.specs.Packet.{bytesPerPacket}
 use Rattle.format.specs.declared.MaybeFormat.the-variants.{Absent}
 use Rattle.layout.specs.Known.{knownTag, allKnown}
+use Rattle.reading.specs.Plain.{plain}
+use Rattle.reading.specs.declared.CAFFileInfo.{CAFFileInfo}
+use Rattle.reading.specs.declared.PlainAnswer.the-variants.{Found, NotRead}
 use Rattle.writer.specs.Sound.{soundAlone, sound}
 use Rattle.writer.specs.Header.{headerOf}
+use Rattle.writer.specs.Resume.{behindHeader}
 use Rattle.writer.specs.declared.CAFWriter.{CAFWriter}
 
 -- a file of so many bytes: longer than the lent buffer, or than any file may be; or neither
@@ -61,6 +66,20 @@ pub data FinishGives (w : CAFWriter) (room : ℕ) : ℕ → Type 0 where
   again : sound w room ≡ true → w .finished ≡ true → FinishGives w room done
   no-header : Going w room → w .«has_header» ≡ false → FinishGives w room noHeader
   accepted : Going w room → w .«has_header» ≡ true → FinishGives w room done
+
+-- a resume of the first len bytes of a buffer, 02, T-05: where no such file is there; where the plain reading refuses it; then by the size
+-- field of its data, held to what stands after the data chunk's header
+pub data ResumeGives (buf : List ℕ) (len : ℕ) : ℕ → Type 0 where
+  no-file : TooLong len (length buf) → ResumeGives buf len badWriter
+  unread : Fits len (length buf) → {number k : ℕ} → plain (take len buf) ≡ NotRead number k → ResumeGives buf len number
+  too-small : Fits len (length buf) → {info : CAFFileInfo} {k : ℕ} → plain (take len buf) ≡ Found info k
+      → bigAt 8 (take len buf) (info .«size_position») < 4 → ResumeGives buf len badSize
+  tail : Fits len (length buf) → {info : CAFFileInfo} {k : ℕ} → plain (take len buf) ≡ Found info k
+      → 4 ≤ bigAt 8 (take len buf) (info .«size_position») → bigAt 8 (take len buf) (info .«size_position») < behindHeader (take len buf) info
+      → ResumeGives buf len tailAfterData
+  accepted : Fits len (length buf) → {info : CAFFileInfo} {k : ℕ} → plain (take len buf) ≡ Found info k
+      → 4 ≤ bigAt 8 (take len buf) (info .«size_position») → behindHeader (take len buf) info ≤ bigAt 8 (take len buf) (info .«size_position»)
+      → ResumeGives buf len done
 
 -- a setting whose own number is this one. It is lent no buffer
 pub data SettingGives (w : CAFWriter) (own : ℕ) : ℕ → Type 0 where
