@@ -66,6 +66,14 @@ fn file_after(file: Vec<u8>, act: impl FnOnce(&mut Memory)) -> Vec<u8> {
     memory.into_inner()
 }
 
+/// The same with a writer resumed from the file, which is not dropped: that would finish it.
+fn file_resumed(file: Vec<u8>, act: impl FnOnce(&mut CAFWriter<&mut Memory>)) -> Vec<u8> {
+    file_after(file, |memory| {
+        let writer = CAFWriter::from_existing_file(memory).expect("a resumed writer");
+        act(&mut mem::ManuallyDrop::new(writer));
+    })
+}
+
 fn stereo(writer: &mut CAFWriter<&mut Memory>) {
     writer.set_audio_format(48000.0, 2, 24).expect("a format is always taken");
     writer.write_header().expect("the header");
@@ -158,9 +166,7 @@ fn settled() {
     });
     let chan = file.windows(4).any(|four| four == b"chan");
     say("a header, then labels set (ours: refused 12)", format!("done, file {}, with chan: {chan}", file.len()));
-    let file = file_after(bare(), |memory| {
-        let writer = CAFWriter::from_existing_file(memory).expect("a resumed writer");
-        let mut writer = mem::ManuallyDrop::new(writer);
+    let file = file_resumed(bare(), |writer| {
         writer.write_pcm_24bit_as_packed(&[1]).expect("a sample");
     });
     say(
@@ -180,16 +186,12 @@ fn writing() {
     });
     say("two headers, finish", two_sizes(&file));
     let open = file_of(stereo);
-    let file = file_after(open.clone(), |memory| {
-        let writer = CAFWriter::from_existing_file(memory).expect("a resumed writer");
-        let mut writer = mem::ManuallyDrop::new(writer);
+    let file = file_resumed(open.clone(), |writer| {
         writer.write_header().expect("a header after resume");
         writer.finish().expect("finish");
     });
     say("header, resume, header, finish", two_sizes(&file));
-    let file = file_after(open.clone(), |memory| {
-        let writer = CAFWriter::from_existing_file(memory).expect("a resumed writer");
-        let mut writer = mem::ManuallyDrop::new(writer);
+    let file = file_resumed(open.clone(), |writer| {
         writer.write_data(&[1]).expect("a byte");
         println!("  header, resume, one byte\n    Rust: stats give {} data bytes", writer.stats().data_written);
     });
@@ -218,9 +220,7 @@ fn reopened() {
         writer.write_data(&[1]).expect("a byte");
         writer.finish().expect("finish");
     });
-    let file = file_after(finished, |memory| {
-        let writer = CAFWriter::from_existing_file(memory).expect("a resumed writer");
-        let mut writer = mem::ManuallyDrop::new(writer);
+    let file = file_resumed(finished, |writer| {
         writer.write_data(&[2]).expect("one byte more");
     });
     say(
@@ -256,8 +256,7 @@ fn tails() {
         ("data of size 4, and info after it", with(4, &info)),
     ] {
         let length = file.len();
-        let file = file_after(file, |memory| {
-            let mut writer = CAFWriter::from_existing_file(memory).expect("a resumed writer");
+        let file = file_resumed(file, |writer| {
             writer.finish().expect("finish");
         });
         say(&format!("{what}, {length} bytes: resume, finish"), format!("size field {}", hex(&file[12..20])));

@@ -18,7 +18,7 @@ use Rattle.writer.specs.Sound.{soundAlone}
 use Rattle.writer.specs.Settings.{settingNumber, first}
 use Rattle.writer.specs.declared.CAFWriter.{CAFWriter}
 use Rattle.given.specs.Rows
-use Rattle.given.specs.Rows.{SettingGives, FormatGives, TagGives, Kept, LabelsGives, ConfigureGives}
+use Rattle.given.specs.Rows.{SettingGives, FormatGives, TagGives, NotTooMany, LabelsGives, ConfigureGives}
 
 module _ (w : CAFWriter) (own : ℕ) where
   pub setting-gives : SettingGives w own (settingNumber w own)
@@ -54,20 +54,20 @@ module _ (t : ℕ) where
   tag-row number (TagGives.accepted k) = rw k
 
 -- labels that are not refused for their count
-kept : (n channels : ℕ) → ltb labelPlaces n && eqb n channels ≡ false → Kept n channels
+kept : (n channels : ℕ) → ltb labelPlaces n && eqb n channels ≡ false → NotTooMany n channels
 kept n channels e = go (ltb labelPlaces n) refl e
   where
-    go : (a : Bool) → ltb labelPlaces n ≡ a → a && eqb n channels ≡ false → Kept n channels
-    go true h e = Kept.dropped (eqb-false n channels e)
-    go false h e = Kept.few (ltb-false labelPlaces n h)
+    go : (a : Bool) → ltb labelPlaces n ≡ a → a && eqb n channels ≡ false → NotTooMany n channels
+    go true h e = NotTooMany.dropped (eqb-false n channels e)
+    go false h e = NotTooMany.few (ltb-false labelPlaces n h)
 
 and-false : (a : Bool) → a && false ≡ false
 and-false true = refl
 and-false false = refl
 
-not-too-many : (n channels : ℕ) → Kept n channels → ltb labelPlaces n && eqb n channels ≡ false
-not-too-many n channels (Kept.few h) = rw (le-ltb labelPlaces n h)
-not-too-many n channels (Kept.dropped h) = rw (ne-eqb n channels h) (and-false (ltb labelPlaces n))
+not-too-many : (n channels : ℕ) → NotTooMany n channels → ltb labelPlaces n && eqb n channels ≡ false
+not-too-many n channels (NotTooMany.few h) = rw (le-ltb labelPlaces n h)
+not-too-many n channels (NotTooMany.dropped h) = rw (ne-eqb n channels h) (and-false (ltb labelPlaces n))
 
 module _ (ls : List ℕ) (channels : ℕ) where
   abbrev n : ℕ

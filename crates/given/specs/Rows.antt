@@ -98,15 +98,15 @@ pub data TagGives (t : ℕ) : ℕ → Type 0 where
   unknown : knownTag t ≡ false → TagGives t badTag
   accepted : knownTag t ≡ true → TagGives t done
 
--- of labels: 17 is of labels that would be kept, and those are as many as the channels; 16 of all others too
-pub data Kept (n channels : ℕ) : Type 0 where
-  few : n ≤ 64 → Kept n channels
-  dropped : ¬ (n ≡ channels) → Kept n channels
+-- of labels: too many are only those that would be kept, so as many as the channels; 16 comes also for labels that would be dropped
+pub data NotTooMany (n channels : ℕ) : Type 0 where
+  few : n ≤ 64 → NotTooMany n channels
+  dropped : ¬ (n ≡ channels) → NotTooMany n channels
 
 pub data LabelsGives (ls : List ℕ) (channels : ℕ) : ℕ → Type 0 where
   too-many : 64 < length ls → length ls ≡ channels → LabelsGives ls channels tooManyLabels
-  unknown : Kept (length ls) channels → allKnown ls ≡ false → LabelsGives ls channels badLabel
-  accepted : Kept (length ls) channels → allKnown ls ≡ true → LabelsGives ls channels done
+  unknown : NotTooMany (length ls) channels → allKnown ls ≡ false → LabelsGives ls channels badLabel
+  accepted : NotTooMany (length ls) channels → allKnown ls ≡ true → LabelsGives ls channels done
 
 -- of both in one call: the format's comes first
 pub data ConfigureGives (rate : Float) (channels bits : ℕ) (ls : List ℕ) (number : ℕ) : Type 0 where
