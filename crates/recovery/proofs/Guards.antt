@@ -44,6 +44,6 @@ pub example-holds : ExampleHolds
 example-holds =
     record {
       typed = example-typed;
-      holds = demand3 (room 200) exampleSessions example-typed;
-      billed = bill (room 200) exampleSessions example-typed;
+      holds = demand3 exampleSessions example-typed;
+      billed = bill exampleSessions example-typed;
     }

@@ -34,7 +34,7 @@ use Rattle.writer.proofs.Made.{made-allowed}
 use Rattle.recovery.specs.Calls.{Call, set, header, bytes, samples, finish}
 use Rattle.recovery.specs.Session.{Session, start, isAccepted, doCall, run}
 use Rattle.recovery.specs.Cut.{Remains, stopped, resting, fileOf}
-use Rattle.recovery.specs.Sessions.{CutSession, isWritten, leaves, resumeCut, resumedFrom, afterFirst, afterNext, afterMore, leftBy, begins}
+use Rattle.recovery.specs.Sessions.{CutSession, isWritten, leaves, lentAgain, resumeCut, resumedFrom, afterFirst, afterNext, afterMore, leftBy, begins}
 use Rattle.recovery.specs.Layouts.{bodyOf, ReadAs, SaysLayout, channelsIn, SaysLayoutOf, LayoutReadBack, LayoutRecovered}
 use Rattle.recovery.proofs.Invariant.{Inv}
 use Rattle.recovery.proofs.Session.{runs}
@@ -103,11 +103,14 @@ leaves-known otherwise l s k (call ∷ calls) n =
 more-known : (r : Remains) → KnownIn (r .atHeader) → (later : List CutSession) → KnownIn (afterMore r later .atHeader)
 unfolding afterMore
 more-known r k [] = k
-more-known r k (c ∷ cs) = more-known (afterNext r c) (leaves-known (resumeCut r (c .stores)) k (resumedFrom r) k (c .calls) (c .stores)) cs
+more-known r k (c ∷ cs) =
+    let q = lentAgain r (c .lent) in
+    more-known (afterNext r c) (leaves-known (resumeCut q (c .stores)) k (resumedFrom q) k (c .calls) (c .stores)) cs
 
-begun-known : (buffer : List ℕ) (earlier : List CutSession) → KnownIn (begins buffer earlier .atHeader)
-begun-known buffer [] = tt
-begun-known buffer (c ∷ cs) = more-known (afterFirst buffer c) (leaves-known (resting (start buffer)) tt (start buffer) tt (c .calls) (c .stores)) cs
+begun-known : (lent : List ℕ) (earlier : List CutSession) → KnownIn (begins lent earlier .atHeader)
+begun-known lent [] = tt
+begun-known lent (c ∷ cs) =
+    more-known (afterFirst c) (leaves-known (resting (start (c .lent))) tt (start (c .lent)) tt (c .calls) (c .stores)) cs
 
 -- a layout in a file of ours
 module _ (layout : ChannelLayout) (ls : List ℕ) where
@@ -155,9 +158,9 @@ session-says s i forms k h =
     subst (SaysLayoutOf hd) (sym (b .file)) (made-says hd (b .f) (fit-makes hd (b .f) (b .format) (forms .at-header)) k (not (w .finished)) (s .arrived) small)
 
 pub layout-read-back : LayoutReadBack
-layout-read-back buffer earlier calls t u h =
-    let s = begins buffer earlier in
-    session-says (run s calls) (runs s calls (begun-inv buffer earlier t)) (run-formats s calls u (begun-formats buffer earlier t)) (run-known s calls (begun-known buffer earlier)) h
+layout-read-back lent earlier calls t u h =
+    let s = begins lent earlier in
+    session-says (run s calls) (runs s calls (begun-inv lent earlier t)) (run-formats s calls u (begun-formats lent earlier t)) (run-known s calls (begun-known lent earlier)) h
 
 -- a finished record has a header
 finished-headed : (s : Session) → Inv s → s .writer .finished ≡ true → s .writer .«has_header» ≡ true
@@ -168,9 +171,9 @@ finished-headed s i f = go (s .writer .«has_header») refl
     go false e = absurd (true-false (sym f ∙ empty (s .writer) e (sound-alone (s .writer) (length (s .buffer)) (i .is-sound) .places) .going))
 
 pub layout-recovered : LayoutRecovered
-layout-recovered buffer sessions t whole =
-    let u = never-cut buffer sessions t whole in
+layout-recovered sessions t whole =
+    let u = never-cut sessions t whole in
     let s = run (start (u .buffer)) (u .calls) in
     let h = finished-headed s (runs (start (u .buffer)) (u .calls) (begins-inv (u .buffer))) (u .finished) in
     let says = layout-read-back (u .buffer) [] (u .calls) tt (u .typed) h in
-    subst (SaysLayoutOf (leftBy buffer sessions .atHeader)) (sym (u .same-file)) (subst (λ (w : CAFWriter). SaysLayoutOf w (fileOf (resting s))) (u .same-header) says)
+    subst (SaysLayoutOf (leftBy sessions .atHeader)) (sym (u .same-file)) (subst (λ (w : CAFWriter). SaysLayoutOf w (fileOf (resting s))) (u .same-header) says)

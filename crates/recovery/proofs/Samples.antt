@@ -42,7 +42,7 @@ use Rattle.writer.proofs.SettledKept.{settled-kept, order-given}
 use Rattle.recovery.specs.Calls.{Setting, format, tag, labels, configure, Call, set, header, bytes, samples, finish, TypedCalls}
 use Rattle.recovery.specs.Session.{Session, isAccepted, brought, doCall, run}
 use Rattle.recovery.specs.Cut.{resting, fileOf}
-use Rattle.recovery.specs.Sessions.{CutSession, leftBy, begins}
+use Rattle.recovery.specs.Sessions.{CutSession, lentAgain, leftBy, begins}
 use Rattle.recovery.specs.Samples.{AlwaysSettled, OneFormat, SamplesFound, SamplesBack}
 use Rattle.recovery.proofs.Invariant.{Inv}
 use Rattle.recovery.proofs.Doing.{by-call, outcome-is}
@@ -72,18 +72,18 @@ rule-runs s k [] t r = r
 rule-runs s k (call ∷ calls) t r = rule-runs (doCall s call) (formats-kept s k call (t .0)) calls (t .1) (rule-kept s k call r)
 
 -- a resume makes it hold, whatever was left
-rule-begins : (buffer : List ℕ) (earlier : List CutSession) → Rule (begins buffer earlier)
-rule-begins buffer [] = settled-kept .fresh buffer
-rule-begins buffer (c ∷ cs) = let r = leftBy buffer (c ∷ cs) in settled-kept .resume (r .buffer) (r .len)
+rule-begins : (lent : List ℕ) (earlier : List CutSession) → Rule (begins lent earlier)
+rule-begins lent [] = settled-kept .fresh lent
+rule-begins lent (c ∷ cs) = let r = lentAgain (leftBy (c ∷ cs)) lent in settled-kept .resume (r .buffer) (r .len)
 
 pub always-settled : AlwaysSettled
-always-settled buffer earlier calls t u = rule-runs (begins buffer earlier) (begun-formats buffer earlier t) calls u (rule-begins buffer earlier)
+always-settled lent earlier calls t u = rule-runs (begins lent earlier) (begun-formats lent earlier t) calls u (rule-begins lent earlier)
 
 pub one-format : OneFormat
-one-format buffer earlier calls t u h =
-    let s = run (begins buffer earlier) calls in
-    let f = read-back buffer earlier calls t u h in
-    let given = order-given (s .writer) (s .buffer) (f .info) (f .chunks) (always-settled buffer earlier calls t u) h (f .found) in
+one-format lent earlier calls t u h =
+    let s = run (begins lent earlier) calls in
+    let f = read-back lent earlier calls t u h in
+    let given = order-given (s .writer) (s .buffer) (f .info) (f .chunks) (always-settled lent earlier calls t u) h (f .found) in
     (given .0 ∙ sym (f .format), given .1 ∙ ap endiannessFor (sym (f .format)))
 
 -- once a header stands the byte order stays
@@ -231,7 +231,7 @@ module _ (s : Session) (i : Inv s) (k : Formats s) (r : Rule s) (xs : List ℤ) 
       }
 
 pub samples-back : SamplesBack
-samples-back buffer earlier before xs after t u v a =
-    let s = begins buffer earlier in
-    samples-found (run s before) (runs s before (begun-inv buffer earlier t)) (run-formats s before u (begun-formats buffer earlier t))
-    (rule-runs s (begun-formats buffer earlier t) before u (rule-begins buffer earlier)) xs after v a
+samples-back lent earlier before xs after t u v a =
+    let s = begins lent earlier in
+    samples-found (run s before) (runs s before (begun-inv lent earlier t)) (run-formats s before u (begun-formats lent earlier t))
+    (rule-runs s (begun-formats lent earlier t) before u (rule-begins lent earlier)) xs after v a

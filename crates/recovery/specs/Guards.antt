@@ -34,13 +34,14 @@ pub record CallsAreTyped : Type 0 where
 abbrev pub exampleSessions : List CutSession
 exampleSessions =
     record {
+      lent = room 200;
       calls = set (configure rate48000 2 24 (label.Left ∷ label.Right ∷ [])) ∷ set (labels (label.Right ∷ label.Left ∷ []) 2) ∷ header ∷ samples (pos 1 ∷ negsuc 0 ∷ []) ∷ finish ∷ [];
       stores = 5;
     } ∷
-    record { calls = bytes (7 ∷ 8 ∷ 9 ∷ []) ∷ []; stores = 2 } ∷ []
+    record { lent = room 3; calls = bytes (7 ∷ 8 ∷ 9 ∷ []) ∷ []; stores = 2 } ∷ []
 
 abbrev pub exampleLeaves : Remains
-exampleLeaves = leftBy (room 200) exampleSessions
+exampleLeaves = leftBy exampleSessions
 
 -- it is within the theorems. That it is whole, and what arrived, are rows of Reopened
 pub record ExampleHolds : Type 0 where

@@ -56,12 +56,12 @@ SaysLayoutOf w file = SaysLayout file (w .layout) (labelsOf w) (channelsIn (w .f
 -- header call, with the channels it had then
 abbrev pub LayoutReadBack : Type 0
 LayoutReadBack =
-    (buffer : List ℕ) (earlier : List CutSession) (calls : List Call) → TypedSessions earlier → TypedCalls calls
-    → run (begins buffer earlier) calls .writer .«has_header» ≡ true
-    → SaysLayoutOf (run (begins buffer earlier) calls .atHeader) (fileOf (resting (run (begins buffer earlier) calls)))
+    (lent : List ℕ) (earlier : List CutSession) (calls : List Call) → TypedSessions earlier → TypedCalls calls
+    → run (begins lent earlier) calls .writer .«has_header» ≡ true
+    → SaysLayoutOf (run (begins lent earlier) calls .atHeader) (fileOf (resting (run (begins lent earlier) calls)))
 
 -- and so does what a resume and a finish make of a file that sessions left and that is not shorter than its header
 abbrev pub LayoutRecovered : Type 0
 LayoutRecovered =
-    (buffer : List ℕ) (sessions : List CutSession) → TypedSessions sessions
-    → IsWhole (leftBy buffer sessions) → SaysLayoutOf (leftBy buffer sessions .atHeader) (recoveredFile (leftBy buffer sessions))
+    (sessions : List CutSession) → TypedSessions sessions
+    → IsWhole (leftBy sessions) → SaysLayoutOf (leftBy sessions .atHeader) (recoveredFile (leftBy sessions))

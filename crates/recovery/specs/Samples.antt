@@ -21,16 +21,16 @@ use Rattle.recovery.specs.Sessions.{CutSession, TypedSessions, begins}
 -- the rule of writer/specs/Settled holds at any time, in the first session and in any later one
 abbrev pub AlwaysSettled : Type 0
 AlwaysSettled =
-    (buffer : List ℕ) (earlier : List CutSession) (calls : List Call) → TypedSessions earlier → TypedCalls calls
-    → Settled (run (begins buffer earlier) calls .writer) (run (begins buffer earlier) calls .buffer)
+    (lent : List ℕ) (earlier : List CutSession) (calls : List Call) → TypedSessions earlier → TypedCalls calls
+    → Settled (run (begins lent earlier) calls .writer) (run (begins lent earlier) calls .buffer)
 
 -- so the record's format, and the byte order in which it packs, are those of the header call, in every later session too
 abbrev pub OneFormat : Type 0
 OneFormat =
-    (buffer : List ℕ) (earlier : List CutSession) (calls : List Call) → TypedSessions earlier → TypedCalls calls
-    → run (begins buffer earlier) calls .writer .«has_header» ≡ true
-    → (run (begins buffer earlier) calls .writer .format ≡ run (begins buffer earlier) calls .atHeader .format)
-    × (run (begins buffer earlier) calls .writer .endianness ≡ endiannessFor (run (begins buffer earlier) calls .atHeader .format))
+    (lent : List ℕ) (earlier : List CutSession) (calls : List Call) → TypedSessions earlier → TypedCalls calls
+    → run (begins lent earlier) calls .writer .«has_header» ≡ true
+    → (run (begins lent earlier) calls .writer .format ≡ run (begins lent earlier) calls .atHeader .format)
+    × (run (begins lent earlier) calls .writer .endianness ≡ endiannessFor (run (begins lent earlier) calls .atHeader .format))
 
 -- the strict reading accepts the session's file. In its payload, after the bytes that had arrived `before`, stand the samples: unpacked in
 -- the byte order that the flags of the strict reading's format give, they are what 24 bits keep of them
@@ -43,6 +43,6 @@ pub record SamplesFound (before : Session) (xs : List ℤ) (now : Session) : Typ
 -- after any earlier sessions and calls a samples call that is accepted, and after it any calls, settings among them
 abbrev pub SamplesBack : Type 0
 SamplesBack =
-    (buffer : List ℕ) (earlier : List CutSession) (before : List Call) (xs : List ℤ) (after : List Call)
-    → TypedSessions earlier → TypedCalls before → TypedCalls after → isAccepted (run (begins buffer earlier) before) (samples xs) ≡ true
-    → SamplesFound (run (begins buffer earlier) before) xs (run (doCall (run (begins buffer earlier) before) (samples xs)) after)
+    (lent : List ℕ) (earlier : List CutSession) (before : List Call) (xs : List ℤ) (after : List Call)
+    → TypedSessions earlier → TypedCalls before → TypedCalls after → isAccepted (run (begins lent earlier) before) (samples xs) ≡ true
+    → SamplesFound (run (begins lent earlier) before) xs (run (doCall (run (begins lent earlier) before) (samples xs)) after)
