@@ -32,6 +32,7 @@ calls-are-typed =
       bytes = λ bs h. h;
       samples = λ xs. tt;
       finish = tt;
+      lend = λ more. tt;
     }
 
 -- each call in its turn: configure, labels, header, samples, finish; then the bytes

@@ -31,7 +31,7 @@ use Rattle.writer.proofs.Tests.{two, true-false}
 use Rattle.writer.proofs.Facts.{headed as headed-of, empty, sound-alone}
 use Rattle.writer.proofs.Kept.{header-allowed}
 use Rattle.writer.proofs.Made.{made-allowed}
-use Rattle.recovery.specs.Calls.{Call, set, header, bytes, samples, finish}
+use Rattle.recovery.specs.Calls.{Call, set, header, bytes, samples, finish, lend}
 use Rattle.recovery.specs.Session.{Session, start, isAccepted, doCall, run}
 use Rattle.recovery.specs.Cut.{Remains, stopped, resting, fileOf}
 use Rattle.recovery.specs.Sessions.{CutSession, isWritten, leaves, lentAgain, resumeCut, resumedFrom, afterFirst, afterNext, afterMore, leftBy, begins}
@@ -83,6 +83,7 @@ known-after s header k = go (isAccepted s header) refl
 known-after s (bytes bs) k = k
 known-after s (samples xs) k = k
 known-after s finish k = k
+known-after s (lend more) k = k
 
 run-known : (s : Session) (calls : List Call) → KnownIn (s .atHeader) → KnownIn (run s calls .atHeader)
 unfolding run

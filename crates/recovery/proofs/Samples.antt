@@ -38,8 +38,10 @@ use Rattle.writer.proofs.Tests.{true-false, pass}
 use Rattle.writer.proofs.Kept.{data-allowed}
 use Rattle.writer.proofs.Made.{made-bytes}
 use Rattle.writer.proofs.Packing.{samples-data}
+use Rattle.reading.specs.Plain.{plain}
+use Rattle.writer.proofs.Facts.{in-room}
 use Rattle.writer.proofs.SettledKept.{settled-kept, order-given}
-use Rattle.recovery.specs.Calls.{Setting, format, tag, labels, configure, Call, set, header, bytes, samples, finish, TypedCalls}
+use Rattle.recovery.specs.Calls.{Setting, format, tag, labels, configure, Call, set, header, bytes, samples, finish, lend, TypedCalls}
 use Rattle.recovery.specs.Session.{Session, isAccepted, brought, doCall, run}
 use Rattle.recovery.specs.Cut.{resting, fileOf}
 use Rattle.recovery.specs.Sessions.{CutSession, lentAgain, leftBy, begins}
@@ -48,6 +50,7 @@ use Rattle.recovery.proofs.Invariant.{Inv}
 use Rattle.recovery.proofs.Doing.{by-call, outcome-is}
 use Rattle.recovery.proofs.Formats.{Formats, formats-kept, run-formats}
 use Rattle.recovery.proofs.Session.{keeps, runs}
+use Rattle.recovery.proofs.Lent.{grown-file}
 use Rattle.recovery.proofs.Remaining.{begun-by}
 use Rattle.recovery.proofs.ReadBack.{found-as-written, read-back}
 use Rattle.recovery.proofs.Sessions.{begun-inv, begun-formats}
@@ -56,20 +59,24 @@ use Rattle.recovery.proofs.Sessions.{begun-inv, begun-formats}
 abbrev Rule : Session → Type 0
 Rule s = Settled (s .writer) (s .buffer)
 
-rule-kept : (s : Session) → Formats s → (call : Call) → Rule s → Rule (doCall s call)
-rule-kept s k (set (format rate channels bits t e)) r = settled-kept .format (s .writer) (s .buffer) rate channels bits t e r
-rule-kept s k (set (tag t)) r = settled-kept .tag (s .writer) (s .buffer) t r
-rule-kept s k (set (labels ls channels)) r = settled-kept .labels (s .writer) (s .buffer) ls channels r
-rule-kept s k (set (configure rate channels bits ls)) r = settled-kept .configure (s .writer) (s .buffer) rate channels bits ls r
-rule-kept s k header r = settled-kept .header (s .writer) (s .buffer) (k .now) r
-rule-kept s k (bytes bs) r = settled-kept .bytes (s .writer) (s .buffer) bs r
-rule-kept s k (samples xs) r = settled-kept .samples (s .writer) (s .buffer) xs r
-rule-kept s k finish r = settled-kept .finish (s .writer) (s .buffer) r
+rule-kept : (s : Session) → Inv s → Formats s → (call : Call) → Rule s → Rule (doCall s call)
+rule-kept s i k (set (format rate channels bits t e)) r = settled-kept .format (s .writer) (s .buffer) rate channels bits t e r
+rule-kept s i k (set (tag t)) r = settled-kept .tag (s .writer) (s .buffer) t r
+rule-kept s i k (set (labels ls channels)) r = settled-kept .labels (s .writer) (s .buffer) ls channels r
+rule-kept s i k (set (configure rate channels bits ls)) r = settled-kept .configure (s .writer) (s .buffer) rate channels bits ls r
+rule-kept s i k header r = settled-kept .header (s .writer) (s .buffer) (k .now) r
+rule-kept s i k (bytes bs) r = settled-kept .bytes (s .writer) (s .buffer) bs r
+rule-kept s i k (samples xs) r = settled-kept .samples (s .writer) (s .buffer) xs r
+rule-kept s i k finish r = settled-kept .finish (s .writer) (s .buffer) r
+rule-kept s i k (lend more) r =
+    let w = s .writer in
+    let e = grown-file (w .«file_len») (s .buffer) more (in-room w (length (s .buffer)) (i .is-sound)) in
+    λ h. let f = r h in (f .0, ap plain e ∙ f .1)
 
-rule-runs : (s : Session) → Formats s → (calls : List Call) → TypedCalls calls → Rule s → Rule (run s calls)
+rule-runs : (s : Session) → Inv s → Formats s → (calls : List Call) → TypedCalls calls → Rule s → Rule (run s calls)
 unfolding run
-rule-runs s k [] t r = r
-rule-runs s k (call ∷ calls) t r = rule-runs (doCall s call) (formats-kept s k call (t .0)) calls (t .1) (rule-kept s k call r)
+rule-runs s i k [] t r = r
+rule-runs s i k (call ∷ calls) t r = rule-runs (doCall s call) (keeps s call i) (formats-kept s k call (t .0)) calls (t .1) (rule-kept s i k call r)
 
 -- a resume makes it hold, whatever was left
 rule-begins : (lent : List ℕ) (earlier : List CutSession) → Rule (begins lent earlier)
@@ -77,7 +84,7 @@ rule-begins lent [] = settled-kept .fresh lent
 rule-begins lent (c ∷ cs) = let r = lentAgain (leftBy (c ∷ cs)) lent in settled-kept .resume (r .buffer) (r .len)
 
 pub always-settled : AlwaysSettled
-always-settled lent earlier calls t u = rule-runs (begins lent earlier) (begun-formats lent earlier t) calls u (rule-begins lent earlier)
+always-settled lent earlier calls t u = rule-runs (begins lent earlier) (begun-inv lent earlier t) (begun-formats lent earlier t) calls u (rule-begins lent earlier)
 
 pub one-format : OneFormat
 one-format lent earlier calls t u h =
@@ -155,6 +162,7 @@ module _ (e : Endianness) (s : Session) (p : Ordered e s) where
   order-kept (bytes bs) = order-bytes bs
   order-kept (samples xs) = order-samples xs
   order-kept finish = order-finish
+  order-kept (lend more) = record { has-header = p .has-header; order = p .order }
 
 order-runs : (e : Endianness) (s : Session) (calls : List Call) → Ordered e s → Ordered e (run s calls)
 unfolding run
@@ -207,9 +215,10 @@ module _ (s : Session) (i : Inv s) (k : Formats s) (r : Rule s) (xs : List ℤ) 
   samples-found =
       let p = order-runs (s .writer .endianness) (doCall s (samples xs)) calls (order-kept (s .writer .endianness) s (record { has-header = samples-header s xs a; order = refl }) (samples xs)) in
       let k' = formats-kept s k (samples xs) tt in
-      let j = runs (doCall s (samples xs)) calls (keeps s (samples xs) i) in
+      let i' = keeps s (samples xs) i in
+      let j = runs (doCall s (samples xs)) calls i' in
       let f = found-as-written last j (run-formats (doCall s (samples xs)) calls typed k') (p .has-header) in
-      let given = order-given (last .writer) (last .buffer) (f .info) (f .chunks) (rule-runs (doCall s (samples xs)) k' calls typed (rule-kept s k (samples xs) r)) (p .has-header) (f .found) in
+      let given = order-given (last .writer) (last .buffer) (f .info) (f .chunks) (rule-runs (doCall s (samples xs)) i' k' calls typed (rule-kept s i k (samples xs) r)) (p .has-header) (f .found) in
       let e : endiannessOf (f .info .format) ≡ s .writer .endianness = sym (given .1) ∙ p .order in
       let more = arrived-more (doCall s (samples xs)) calls in
       let all : last .arrived ≡ s .arrived ++ (bs ++ more .0) =
@@ -234,4 +243,4 @@ pub samples-back : SamplesBack
 samples-back lent earlier before xs after t u v a =
     let s = begins lent earlier in
     samples-found (run s before) (runs s before (begun-inv lent earlier t)) (run-formats s before u (begun-formats lent earlier t))
-    (rule-runs s (begun-formats lent earlier t) before u (rule-begins lent earlier)) xs after v a
+    (rule-runs s (begun-inv lent earlier t) (begun-formats lent earlier t) before u (rule-begins lent earlier)) xs after v a

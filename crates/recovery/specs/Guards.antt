@@ -10,7 +10,7 @@ use Rattle.format.specs.declared.PCMDataType.{PCMDataType}
 use Rattle.format.specs.declared.Endianness.{Endianness}
 use Rattle.layout.specs.Labels as label
 use Rattle.reading.specs.Claims.{Bytes}
-use Rattle.recovery.specs.Calls.{Call, set, format, tag, labels, configure, header, bytes, samples, finish, Numbers32, TypedCall}
+use Rattle.recovery.specs.Calls.{Call, set, format, tag, labels, configure, header, bytes, samples, finish, lend, Numbers32, TypedCall}
 use Rattle.recovery.specs.Cut.{Remains}
 use Rattle.recovery.specs.Sessions.{CutSession, TypedSessions, leftBy}
 use Rattle.recovery.specs.Demand.{IsShort, IsWhole, Holds, BilledRight}
@@ -29,6 +29,7 @@ pub record CallsAreTyped : Type 0 where
   pub bytes : (bs : List ℕ) → Bytes bs → TypedCall (bytes bs)
   pub samples : (xs : List ℤ) → TypedCall (samples xs)
   pub finish : TypedCall finish
+  pub lend : (more : List ℕ) → TypedCall (lend more)
 
 -- document 01's example with its labels exchanged, its finish cut after five stores; then a session that dies in its data
 abbrev pub exampleSessions : List CutSession
