@@ -9,9 +9,9 @@ ghost use Rattle.byteorder.specs.Splice.{splice};
 ghost use Rattle.layout.specs.Chan.{chanHead, description, descriptions, chanFits, chanPut};
 
 // The bytes before the descriptions, and of one description.
-const HEAD: usize = 12;
+pub const CHAN_HEAD: usize = 12;
 
-const DESCRIPTION: usize = 20;
+pub const DESCRIPTION: usize = 20;
 
 // Tag, no bitmap, and the count of descriptions.
 fn head(tag: u32, count: u32) -> [u8; 12]
@@ -70,7 +70,7 @@ pub fn put_chan(buf: &mut [u8], at: usize, tag: u32, labels: &[u32]) -> bool
     if LABEL_PLACES < labels.len() {
         return false;
     }
-    let size = HEAD + DESCRIPTION * labels.len();
+    let size = CHAN_HEAD + DESCRIPTION * labels.len();
     if buf.len() < size {
         return false;
     }
@@ -78,7 +78,7 @@ pub fn put_chan(buf: &mut [u8], at: usize, tag: u32, labels: &[u32]) -> bool
         return false;
     }
     let bytes = head(tag, labels.len() as u32);
-    store(buf, at, &bytes, HEAD);
-    put_descriptions(buf, at + HEAD, labels);
+    store(buf, at, &bytes, CHAN_HEAD);
+    put_descriptions(buf, at + CHAN_HEAD, labels);
     true
 }
