@@ -11,15 +11,14 @@ use Rattle.answers.specs.Numbers.{done}
 use Rattle.byteorder.specs.Splice.{hasRoom, storeCount, storeFirst}
 use Rattle.byteorder.proofs.Laws.{splice-nil}
 use Rattle.byteorder.proofs.Budget.{all-done}
-use Rattle.writer.specs.Outcome.{Outcome, stores, unchanged, unlessRefused, counted, bufferCut}
+use Rattle.writer.specs.Outcome.{Outcome, stores, unchanged, unlessRefused, cut, counted, bufferCut}
 use Rattle.writer.specs.Record.{asFinished}
 use Rattle.writer.specs.Finish.{finishNumber, finalSize, finishCall}
-use Rattle.writer.specs.WholeCalls.{CutWhole}
 use Rattle.writer.specs.declared.CAFWriter.{CAFWriter}
 use Rattle.writer.specs.declared.Counted.{Counted}
 use Rattle.writer.proofs.Tests.{accepted, refused}
 
-pub cut-whole : CutWhole
+pub cut-whole : (n : ℕ) (o : Outcome) → length (o .bytes) ≤ n → cut n o ≡ o
 cut-whole n o h = ap (λ (bs : List ℕ). record { number = o .number; place = o .place; bytes = bs; after = o .after }) (take-all n (o .bytes) h)
 
 -- the answer of a counted call that did k stores from position p on

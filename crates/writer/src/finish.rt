@@ -10,14 +10,13 @@ use answers::DONE;
 use answers::NO_HEADER;
 use byteorder::bytes::u64_bytes;
 use byteorder::store::store;
+use reading::sizes::EDIT_COUNT;
 ghost use mathlib.Core.Path.{_≡_};
 ghost use Prim.Native.Nat.{_≤_};
 ghost use lib.ListN.{length};
 ghost use Rattle.answers.specs.Numbers.{fileMax};
 ghost use Rattle.writer.specs.Outcome.{answer, bufferAfter, counted, bufferCut};
 ghost use Rattle.writer.specs.Finish.{finishNumber, finalSize, finishCall};
-
-const EDIT_COUNT: usize = 4;
 
 impl CAFWriter {
     // A second finish is no fault.

@@ -5,12 +5,10 @@ use format::AudioFormat;
 use format::Endianness;
 use format::MaybeFormat;
 use layout::ChannelLayout;
+use reading::sizes::SIZE_TO_DATA;
 ghost use mathlib.Core.Path.{_≡_};
 ghost use Prim.Native.Nat.{_+_, _≤_, _<_, _^_};
 ghost use Rattle.writer.specs.Record.{fresh, withFormat, withHeader, withData, asFinished, statsOf};
-
-// From the start of the data chunk's size field to the data.
-pub(crate) const SIZE_TO_DATA: usize = 12;
 
 impl CAFWriter {
     pub fn new() -> CAFWriter

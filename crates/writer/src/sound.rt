@@ -1,6 +1,5 @@
 // When a record is sound, in the order of specs/Sound.antt.
 use crate::CAFWriter;
-use crate::record::SIZE_TO_DATA;
 use answers::FILE_MAX;
 use byteorder::float::is_not_a_number;
 use format::Endianness;
@@ -10,13 +9,17 @@ use layout::ChannelLayout;
 use layout::known::all_known;
 use layout::known::known_tag;
 use layout::setting::LABEL_PLACES;
+use reading::sizes::CHUNK_HEADER;
+use reading::sizes::EDIT_COUNT;
+use reading::sizes::FILE_HEADER;
+use reading::sizes::SIZE_TO_DATA;
 ghost use mathlib.Core.Path.{_≡_};
 ghost use Rattle.format.specs.Flags.{sameOrder, isLittle};
 ghost use Rattle.writer.specs.Header.{exceeds};
 ghost use Rattle.writer.specs.Sound.{headedSound, placesSound, rateSound, formatSound, labelsSound, layoutSound, soundAlone, sound};
 
 // A file header, a chunk header and an edit count stand before the data.
-const LEAST_START: usize = 24;
+const LEAST_START: usize = FILE_HEADER + CHUNK_HEADER + EDIT_COUNT;
 
 // Whether a file of this length is longer than the buffer, or than any file may be.
 pub(crate) fn is_too_long(len: usize, room: usize) -> bool
@@ -66,7 +69,7 @@ fn format_sound(w: CAFWriter) -> bool
     same_order(endianness, endianness_for(format))
 }
 
-// Behind a header. The least start is tested first, so that the distance to the size field can be taken.
+// With a header. The least start is tested first, so that the distance to the size field can be taken.
 fn headed_sound(w: CAFWriter) -> bool
     ensures { λ r. ⌜ r ≡ headedSound w ⌝ }
 {

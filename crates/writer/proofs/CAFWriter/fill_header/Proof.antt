@@ -3,6 +3,8 @@ use native.Mathlib.Omega.{arith}
 use Prim.Native.Nat.{_≤_}
 use lib.ListN.{length, take}
 use lib.Seq.{length-take-le}
+use Rattle.layout.specs.Setting.{labelPlaces}
+use Rattle.header_bytes.proofs.Parts.{fits, header-in}
 use Rattle.writer.proofs.Heads.{labels-within}
 use borrow.Author.Needs.{needs}
 use Rattle.writer.proofs.CAFWriter.fill_header.Statement.{statement}
@@ -23,17 +25,18 @@ slice-aggregate-put-header c =
     sym (length-take-le (c .before .before .within-places .result) (w .labels) (omega (arith, c .before .before .within-places .ensures)))
 
 put-header-requires : tie.Need-put-header-requires
-put-header-requires c κs =
-    let w = c .before .before .before .before .args .self in
-    let k : length (w .labels) ≡ 64 = search needs in
-    let few : length (take (c .before .before .within-places .result) (w .labels)) ≤ 64 = omega (arith, length-take-le (c .before .before .within-places .result) (w .labels) (omega (arith, c .before .before .within-places .ensures)), c .before .before .within-places .ensures) in
-    (omega (arith, c .before .before .before .before .pre .0), few, c .before .before .before .before .pre .1)
+put-header-requires c κs = search needs
 
 returns : tie.Need-returns
 returns c =
-    let w = c .before .before .before .before .before .args .self in
+    let a = c .before .before .before .before .before .args in
+    let w = a .self in
     let k : length (w .labels) ≡ 64 = search needs in
-    rw (← labels-within (w .labels) (w .«label_count») k, ← c .before .before .before .within-places .ensures) (c .put-header .ensures)
+    let n = c .before .before .before .within-places in
+    let few : length (take (n .result) (w .labels)) ≤ labelPlaces = omega (arith, length-take-le (n .result) (w .labels) (omega (arith, n .ensures)), n .ensures) in
+    let h = c .before .before .before .before .before .pre in
+    let is = header-in (length (a .out .now)) (a .format) (w .layout) (take (n .result) (w .labels)) (fits (length (a .out .now)) (a .format) (take (n .result) (w .labels)) (omega (arith, h .0)) few (h .1)) in
+    rw (← labels-within (w .labels) (w .«label_count») k, ← n .ensures, ← is) (c .put-header .ensures)
 
 pub fill-header-spec : {M : Type 1} → statement M
 fill-header-spec =

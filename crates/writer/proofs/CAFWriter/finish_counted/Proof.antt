@@ -1,7 +1,7 @@
 use Rattle.byteorder.specs.Splice.{storeCount, storeFirst}
 use mathlib.Core.List.{List}
 use Rattle.writer.proofs.Counting.{counted-unchanged, counted-refused, counted-stored, count-most, finish-going}
-use Rattle.writer.proofs.Kept.{finish-sound, finish-header}
+use Rattle.writer.proofs.Allowed.{finish-sound, finish-header}
 use Rattle.writer.proofs.Facts.{sound-alone, in-room, headed}
 use Rattle.writer.specs.Finish.{finishNumber, finalSize, finishCall}
 use Rattle.writer.specs.Outcome.{stores, unchanged}

@@ -1,6 +1,7 @@
 use lib.ListN.{length, length-take, replicate}
-use Rattle.writer.specs.Made.{headerBytes}
-use Rattle.writer.proofs.Heads.{rate-number, header-of, header-small, filled}
+use Rattle.header_bytes.specs.Made.{headerBytes}
+use Rattle.header_bytes.proofs.Parts.{header-small}
+use Rattle.writer.proofs.Heads.{rate-number, header-of, filled}
 use mathlib.Core.Path.{_≡_, sym, _∙_, ap}
 use native.Mathlib.Omega.{arith}
 use Prim.Native.Nat.{ℕ, _≤_}
@@ -10,7 +11,7 @@ use Rattle.writer.specs.Record.{labelsOf, withHeader}
 use Rattle.writer.specs.Header.{isAbsent, headerOf, headerNumber, headerCall}
 use Rattle.writer.proofs.Tests.{true-false}
 use Rattle.writer.proofs.Facts.{sound-alone}
-use Rattle.writer.proofs.Kept.{header-allowed}
+use Rattle.writer.proofs.Allowed.{header-allowed}
 use Rattle.writer.proofs.Counting.{counted-stored}
 use borrow.Author.Needs.{needs}
 use Rattle.writer.proofs.CAFWriter.store_header.Statement.{statement}

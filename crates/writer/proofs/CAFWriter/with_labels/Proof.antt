@@ -1,6 +1,6 @@
 use mathlib.Core.Path.{sym, _∙_}
 use borrow.Author.Needs.{needs}
-use Rattle.writer.proofs.KeptSettings.{passes}
+use Rattle.writer.proofs.Settling.{passes}
 use Rattle.writer.proofs.Settling.{described-as-many}
 use Rattle.writer.proofs.CAFWriter.with_labels.Statement.{statement}
 use Rattle.writer.proofs.CAFWriter.with_labels.Tie as tie

@@ -1,6 +1,6 @@
 use Rattle.writer.proofs.Counting.{count-most}
 use Rattle.writer.proofs.Counting.{counted-refused, counted-stored}
-use Rattle.writer.proofs.Kept.{data-allowed}
+use Rattle.writer.proofs.Allowed.{data-allowed}
 use Rattle.writer.specs.Data.{dataNumber, dataCall}
 use Rattle.writer.specs.Outcome.{stores}
 use Rattle.writer.specs.Record.{withData}

@@ -1,0 +1,4 @@
+pub mod Made
+pub mod Put
+pub mod Claims
+pub mod ReadBack
