@@ -23,14 +23,14 @@ use Rattle.chan_reading.proofs.Theorems.{sought-is-first}
 use Rattle.chan_reading.proofs.FoundFirst.{found-is-first}
 use Rattle.writer.specs.Record.{labelsOf, withHeader}
 use Rattle.writer.specs.Sound.{layoutSoundAs, layoutSound}
-use Rattle.writer.specs.Made.{layoutChunks, made}
+use Rattle.header_bytes.specs.Made.{layoutChunks, made}
 use Rattle.writer.specs.Outcome.{stores}
 use Rattle.writer.specs.Header.{headerOf, headerNumber, headerCall}
 use Rattle.writer.specs.declared.CAFWriter.{CAFWriter}
 use Rattle.writer.proofs.Tests.{two, true-false}
 use Rattle.writer.proofs.Facts.{headed as headed-of, empty, sound-alone}
-use Rattle.writer.proofs.Kept.{header-allowed}
-use Rattle.writer.proofs.Made.{made-allowed}
+use Rattle.writer.proofs.Allowed.{header-allowed}
+use Rattle.header_bytes.proofs.Made.{made-allowed}
 use Rattle.recovery.specs.Calls.{Call, set, header, bytes, samples, finish, lend}
 use Rattle.recovery.specs.Session.{Session, start, isAccepted, doCall, run}
 use Rattle.recovery.specs.Cut.{Remains, stopped, resting, fileOf}

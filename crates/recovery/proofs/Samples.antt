@@ -26,21 +26,21 @@ use Rattle.reading.specs.Types.{'data', editSize}
 use Rattle.reading.specs.Grammar.{front, chunkHeader, dataSize, dataChunk, bytesOf}
 use Rattle.writer.specs.Record.{labelsOf, withFormat, withLayout, withHeader, withData, asFinished}
 use Rattle.writer.specs.Sound.{soundAlone}
-use Rattle.writer.specs.Made.{layoutChunks, made, headerBytes}
+use Rattle.header_bytes.specs.Made.{layoutChunks, made, headerBytes}
 use Rattle.writer.specs.Outcome.{stores, unchanged}
 use Rattle.writer.specs.Header.{headerOf, headerNumber, headerCall}
 use Rattle.writer.specs.Data.{dataNumber, dataCall, samplesNumber, samplesCall}
 use Rattle.writer.specs.Finish.{finishNumber, finalSize, finishCall}
 use Rattle.writer.specs.Settings.{settingNumber, first, withLabels, formatCall, tagCall, labelsCall, configureCall}
-use Rattle.writer.specs.Settled.{Settled}
+use Rattle.kept.specs.Settled.{Settled}
 use Rattle.writer.specs.declared.CAFWriter.{CAFWriter}
 use Rattle.writer.proofs.Tests.{true-false, pass}
-use Rattle.writer.proofs.Kept.{data-allowed}
-use Rattle.writer.proofs.Made.{made-bytes}
+use Rattle.writer.proofs.Allowed.{data-allowed}
+use Rattle.header_bytes.proofs.Made.{made-bytes}
 use Rattle.writer.proofs.Packing.{samples-data}
 use Rattle.reading.specs.Plain.{plain}
 use Rattle.writer.proofs.Facts.{in-room}
-use Rattle.writer.proofs.SettledKept.{settled-kept, order-given}
+use Rattle.kept.proofs.SettledKept.{settled-kept, order-given}
 use Rattle.recovery.specs.Calls.{Setting, format, tag, labels, configure, Call, set, header, bytes, samples, finish, lend, TypedCalls}
 use Rattle.recovery.specs.Session.{Session, isAccepted, brought, doCall, run}
 use Rattle.recovery.specs.Cut.{resting, fileOf}

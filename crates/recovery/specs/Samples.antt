@@ -12,7 +12,7 @@ use Rattle.pcm.specs.RoundTrip.{kept24}
 use Rattle.reading.specs.Strict.{strict}
 use Rattle.reading.specs.declared.StrictInfo.{StrictInfo}
 use Rattle.reading.specs.declared.StrictAnswer.the-variants.{Accepted}
-use Rattle.writer.specs.Settled.{Settled}
+use Rattle.kept.specs.Settled.{Settled}
 use Rattle.recovery.specs.Calls.{Call, samples, TypedCalls}
 use Rattle.recovery.specs.Session.{Session, isAccepted, doCall, run}
 use Rattle.recovery.specs.Cut.{resting, fileOf}
