@@ -1,8 +1,8 @@
 /* The 47 labels and the 50 tags by their numbers in the Rust, which come on standard input (tests/names.txt): a writer takes each of them,
- * and no other number of those around them. */
+ * and no other number of those around them. tools/c_names compares their names; here are the names of the numbers that calls give. */
 #include <inttypes.h>
 
-#include "caf.h"
+#include "caf_names.h"
 #include "holds.h"
 
 enum { MOST = 64, NAME = 64, LABELS_UP_TO = 1000, HIGH_UP_TO = 256, LOW_UP_TO = 32 };
@@ -26,6 +26,21 @@ static uint64_t record[CAF_RECORD];
 static uint32_t set_label(uint32_t label) { return caf_set_layout_for_labels(record, CAF_RECORD, &label, 1, 1); }
 static uint32_t set_tag(uint32_t tag) { return caf_set_layout_tag(record, CAF_RECORD, tag); }
 
+/* a number that no call gives has no name, and says so */
+static bool is_unknown(const char *text) { return strcmp(text, "unknown number") == 0; }
+
+static void number_names(void) {
+    uint32_t number;
+
+    for (number = 0; number <= CAF_TAIL_AFTER_DATA; number++)
+        HOLDS(!is_unknown(caf_number_name(number)) && !is_unknown(caf_number_words(number)));
+    for (; number < LABELS_UP_TO; number++)
+        HOLDS(is_unknown(caf_number_name(number)) && is_unknown(caf_number_words(number)));
+    HOLDS(is_unknown(caf_number_name(UINT32_MAX)));
+    HOLDS(strcmp(caf_number_name(8), "DataPastEnd") == 0);
+    HOLDS(strcmp(caf_number_words(8), "the data size reaches past the end of the file") == 0);
+}
+
 int main(void) {
     struct list labels = {.count = 0}, tags = {.count = 0};
     char kind[NAME], name[NAME];
@@ -39,6 +54,7 @@ int main(void) {
     HOLDS(labels.count == 47 && tags.count == 50);
     HOLDS(caf_new(record, CAF_RECORD) == CAF_DONE);
 
+    number_names();
     for (number = 0; number < LABELS_UP_TO; number++)
         HOLDS(set_label(number) == (has(&labels, number) ? CAF_DONE : CAF_BAD_LABEL));
     HOLDS(set_label(UINT32_MAX) == CAF_DONE && has(&labels, UINT32_MAX) && set_label(UINT32_MAX - 1) == CAF_BAD_LABEL);
