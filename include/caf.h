@@ -1,12 +1,15 @@
-/* The CAF file layer, for C. Link with libcaf.a (`rt staticlib caf`); no other library is needed.
+/* The CAF file layer, for C. Link with libcaf.a or libcaf.so. Of the C library it needs memcpy and memset
+ * and nothing else; it takes no memory of its own, keeps nothing between two calls and makes no call of
+ * the system. caf_names.h has names for labels, tags and numbers.
  *
  * A slice is a pointer and a count of elements. With a count of 0 the pointer may be anything, NULL
  * too. Slices that one call is lent must not overlap where the call writes to one of them, and
  * nothing else may change them while the call runs. Every call takes any contents and any count that an
  * array can have: elements times their size stay below 2^63 bytes.
  *
- * Every call gives back a number: CAF_DONE, or the refusal that applies first. No call takes more than
- * CAF_STACK bytes of stack. */
+ * Every call gives back a number: CAF_DONE, or the refusal that applies first. "Numbers" below are all
+ * the refusals that a call gives, in the order in which it tests for them; docs/FORMAT.md says of each
+ * when it applies. No call takes more than CAF_STACK bytes of stack. */
 #ifndef CAF_H
 #define CAF_H
 
@@ -50,6 +53,9 @@ enum caf_number {
  * call takes. */
 enum { CAF_STACK = 4096 };
 
+/* Bytes of the longest header, that of 64 described channels. A layout by tag makes 92, no layout 68. */
+enum { CAF_LONGEST_HEADER = 1372 };
+
 /* ---- the readings */
 
 /* Places in the array that caf_parse fills. The seven numbers of the format are 0 where
@@ -72,7 +78,9 @@ enum caf_plain_place {
 
 /* The plain reading of a file. Done: writes out[0..11]. Refused: writes out[CAF_PLAIN_CHUNKS] and
  * nothing else. With fewer than CAF_PLAIN_PLACES places: CAF_NO_ROOM, and writes nothing. It never
- * writes behind out[11], and not to the file. */
+ * writes after out[11], and not to the file.
+ *
+ * Numbers: 14; 1, 2 for the file header; then chunk by chunk 3, 1, 5, 4, 3. */
 uint32_t caf_parse(const uint8_t *file, size_t file_len, uint64_t *out, size_t out_len);
 
 /* Places in the array that caf_read_strict fills. */
@@ -96,11 +104,13 @@ enum caf_strict_place {
 /* The strict reading of a file. It looks at chunk headers and at the body of `desc`, and at no other
  * byte of the file. Done: writes out[0..12]. Refused: writes out[CAF_STRICT_CHUNKS] and nothing
  * else. With fewer than CAF_STRICT_PLACES places: CAF_NO_ROOM, and writes nothing. It never writes
- * behind out[12], and not to the file.
+ * after out[12], and not to the file.
  *
  * Chunks may follow closed data. A closed file has some where
  * out[CAF_STRICT_DATA_START] + out[CAF_STRICT_PAYLOAD] is below file_len; they are no payload. The
- * size field alone says where the data end: one of 4 gives a payload of 0, whatever follows it. */
+ * size field alone says where the data end: one of 4 gives a payload of 0, whatever follows it.
+ *
+ * Numbers: 14; 1, 2, 6 for the file header; then chunk by chunk 3, 1, 7, 23, 4, 1, 5, 8. */
 uint32_t caf_read_strict(const uint8_t *file, size_t file_len, uint64_t *out, size_t out_len);
 
 /* ---- the strict reading of a film that comes in blocks
@@ -125,7 +135,7 @@ uint32_t caf_read_strict(const uint8_t *file, size_t file_len, uint64_t *out, si
 enum caf_feeder_place {
     CAF_FEEDER_PHASE = 0,     /* 0 to 10: what is waited for; 7 after a refusal */
     CAF_FEEDER_RATE = 1,      /* the format, once it was read, in the order of caf_strict_place */
-    CAF_FEEDER_FORMAT_ID = 2, /* this and the five behind it: 32 bits */
+    CAF_FEEDER_FORMAT_ID = 2, /* this and the five after it: 32 bits */
     CAF_FEEDER_NUMBER = 8,    /* bytes of a body or of closed data to come, or the refusal */
     CAF_FEEDER_SIZE = 9,      /* the size field of a data chunk, unless it is open */
     CAF_FEEDER_START = 10,    /* where the data start */
@@ -137,18 +147,24 @@ enum caf_feeder_place {
 };
 
 /* A record that no byte was fed. Writes feeder[0..17]. An array of another length: CAF_BAD_WRITER,
- * and writes nothing. */
+ * and writes nothing.
+ *
+ * Numbers: 19. */
 uint32_t caf_feed_begin(uint64_t *feeder, size_t feeder_len);
 
 /* Feeds a block. Writes the next record, also where it gives a refusal: one that the bytes so far are
- * enough for (2, 4, 5, 6, 7 or 23), or CAF_TOO_LONG for more than 2^63 - 1 bytes in all. After a
- * refusal further blocks change nothing and give the same number. */
+ * enough for, or CAF_TOO_LONG for more than 2^63 - 1 bytes in all. After a refusal further blocks change
+ * nothing and give the same number.
+ *
+ * Numbers: 19; 2, 6 for the file header; then chunk by chunk 7, 23, 4, 5; 21. */
 uint32_t caf_feed(uint64_t *feeder, size_t feeder_len, const uint8_t *block, size_t block_len);
 
 /* The answer for all that was fed; fills out as caf_read_strict does. The record is only read, so
  * that more may be fed afterwards, and a second end answers the same. An unsound record:
  * CAF_BAD_WRITER, and a count of 0. With fewer than CAF_STRICT_PLACES places: CAF_NO_ROOM, and writes
- * nothing. */
+ * nothing.
+ *
+ * Numbers: 14, 19; what a block gave, 2, 6, 7, 23, 4, 5 or 21; then 3, 1, 8. */
 uint32_t caf_feed_end(const uint64_t *feeder, size_t feeder_len, uint64_t *out, size_t out_len);
 
 /* ---- layouts */
@@ -160,8 +176,11 @@ enum caf_layout_place {
     CAF_LAYOUT_PLACES = 2
 };
 
-/* The layout that a writer would take for these labels. Writes out[0..1]. With fewer than
- * CAF_LAYOUT_PLACES places: CAF_NO_ROOM, and writes nothing. */
+/* The layout that a writer would take for these labels and as many channels. It does not ask whether
+ * the labels are known, nor whether a record has places for them. Writes out[0..1]. With fewer than
+ * CAF_LAYOUT_PLACES places: CAF_NO_ROOM, and writes nothing.
+ *
+ * Numbers: 14. */
 uint32_t caf_layout_for_labels(const uint32_t *labels, size_t label_count, uint64_t *out, size_t out_len);
 
 /* ---- the layout that a file says
@@ -184,7 +203,9 @@ enum caf_chan_place {
 /* The first `chan` before the data. It goes by the sizes of chunk headers, looks at no other byte and
  * refuses no file: whether the bytes are one is caf_read_strict's to say. A place that it finds lies
  * within the file; a chunk that runs past the end ends the search. Writes out[0..2]. With fewer than
- * CAF_CHAN_PLACES places: CAF_NO_ROOM, and writes nothing. */
+ * CAF_CHAN_PLACES places: CAF_NO_ROOM, and writes nothing.
+ *
+ * Numbers: 14. */
 uint32_t caf_find_chan(const uint8_t *file, size_t file_len, uint64_t *out, size_t out_len);
 
 /* Places in the array `said` of caf_read_chan. */
@@ -214,16 +235,23 @@ enum caf_description_place {
  *   CAF_BAD_LAYOUT  a body that is not 12 + 20 * n bytes long, n being its count of descriptions; tag 0
  *                   where n is not `channels`; any other tag but 65536 whose low half is not `channels`;
  *   CAF_NO_ROOM     fewer than CAF_DESCRIPTION * n places in `out`.
- * Tags, labels and bitmaps that are none of CAF's are given as they stand. */
+ * Tags, labels and bitmaps that are none of CAF's are given as they stand.
+ *
+ * Numbers: 14, 1, 22, 14. */
 uint32_t caf_read_chan(const uint8_t *body, size_t body_len, uint32_t channels,
                        uint32_t *out, size_t out_len, uint64_t *said, size_t said_len);
 
 /* ---- the writer
  *
  * The caller keeps the writer record, CAF_RECORD numbers, and the buffer that the file is written to.
- * caf_new and caf_resume make a record; the calls below change it. The numbers of a record are the
- * library's own: the places are named for tests. An array of another length, or one whose numbers
- * stand for no record, is an unsound record: CAF_BAD_WRITER.
+ * caf_new and caf_resume make a record; the calls below change it. Nobody else should: an array of
+ * another length, or one whose numbers stand for no record or contradict each other (docs/FORMAT.md,
+ * When a record is sound), is an unsound record: CAF_BAD_WRITER.
+ *
+ * Any place may be read. Of a record that calls made, record[CAF_RECORD_FILE_LEN] is how many bytes of
+ * the buffer are the file, record[CAF_RECORD_SIZE_POSITION] where the eight bytes of its data size
+ * stand, and record[CAF_RECORD_DATA_START] where its payload starts; all three are 0 before a header.
+ * These places and those of the format stay where they are in later versions.
  *
  * Done: the call writes the next record over the old one. Refused: the record, the buffer and every
  * other place that the call was lent keep their contents, unless a call below says otherwise. Bytes
@@ -231,7 +259,7 @@ uint32_t caf_read_chan(const uint8_t *body, size_t body_len, uint32_t channels,
 enum caf_record_place {
     CAF_RECORD_HAS_FORMAT = 0,   /* 1 or 0; then the seven numbers of the format, not looked at for 0 */
     CAF_RECORD_RATE = 1,         /* the 64 bits of the rate */
-    CAF_RECORD_FORMAT_ID = 2,    /* this and the five behind it: 32 bits */
+    CAF_RECORD_FORMAT_ID = 2,    /* this and the five after it: 32 bits */
     CAF_RECORD_FLAGS = 3,
     CAF_RECORD_BYTES_PER_PACKET = 4,
     CAF_RECORD_FRAMES_PER_PACKET = 5,
@@ -252,7 +280,9 @@ enum caf_record_place {
 };
 
 /* A fresh record. Writes record[0..81]. An array of another length: CAF_BAD_WRITER, and writes
- * nothing. */
+ * nothing.
+ *
+ * Numbers: 19. */
 uint32_t caf_new(uint64_t *record, size_t record_len);
 
 /* Resumes the file that stands in the first file_len bytes of the buffer. It can be resumed where the
@@ -265,7 +295,10 @@ uint32_t caf_new(uint64_t *record, size_t record_len);
  * file reads as open: whatever a host appends before it dies counts as payload. Refused: stores
  * nothing in the buffer and writes a fresh record. In both cases writes the count of chunk headers
  * met to chunks[0]. An array of another length than CAF_RECORD: CAF_BAD_WRITER; then no place for
- * the count: CAF_NO_ROOM; either stores and writes nothing. */
+ * the count: CAF_NO_ROOM; either stores and writes nothing. Then CAF_BAD_WRITER for a file_len above
+ * buf_len or 2^63 - 1.
+ *
+ * Numbers: 19, 14, 19; as caf_parse 1, 2, then chunk by chunk 3, 1, 5, 4, 3; then 4, 24. */
 uint32_t caf_resume(uint8_t *buf, size_t buf_len, uint64_t file_len,
                     uint64_t *record, size_t record_len, uint64_t *chunks, size_t chunks_len);
 
@@ -279,37 +312,70 @@ enum caf_resume_counted_place {
 
 /* The first n stores of a resume, or all eight. Makes no record. Done and refused: writes out[0..2]; a
  * refused one stores nothing in the buffer. With fewer than CAF_RESUME_COUNTED_PLACES places:
- * CAF_NO_ROOM, and stores and writes nothing. */
+ * CAF_NO_ROOM, and stores and writes nothing.
+ *
+ * Numbers: 14, 19; as caf_parse 1, 2, then chunk by chunk 3, 1, 5, 4, 3; then 4, 24. */
 uint32_t caf_resume_counted(uint8_t *buf, size_t buf_len, uint64_t file_len, uint64_t n,
                             uint64_t *out, size_t out_len);
 
 /* Settings: they write to the record alone. Once a header stands, also that of a resumed file, they
- * are refused: CAF_HEADER_ALREADY.
+ * are refused: CAF_HEADER_ALREADY. A later setting replaces an earlier one. */
+
+/* Sets the format: id `lpcm`, one frame per packet, rate, channels and bits as given, flags and byte
+ * order by the last two. The layout stays as it is.
  *
  * Bytes per packet of the format are the bytes that hold `bits` (bits / 8, rounded up) times channels:
  * 20 bits and 2 channels make 6. From 2^32 on: CAF_PACKET_TOO_BIG. Samples are packed in three bytes
- * whatever `bits` says, so that a packet is a frame of them where bits is 17 to 24. */
+ * whatever `bits` says, so that a packet is a frame of them where bits is 17 to 24.
+ *
+ * Numbers: 19, 12, 5, 15. */
 uint32_t caf_set_format(uint64_t *record, size_t record_len,
                         double rate, uint32_t channels, uint32_t bits, bool is_float, bool little_endian);
+
+/* Sets the layout to a tag. Its channels are not compared with the format's.
+ *
+ * Numbers: 19, 12, 18. */
 uint32_t caf_set_layout_tag(uint64_t *record, size_t record_len, uint32_t tag);
+
+/* Sets the layout to what caf_layout_for_labels says of these labels, where they are as many as
+ * `channels`. Where they are not, the layout is cleared: the file gets no `chan`; but all labels have
+ * to be known all the same. More than 64 are CAF_TOO_MANY_LABELS only where they are as many as
+ * `channels`. The channels of the format are not looked at.
+ *
+ * Numbers: 19, 12, 17, 16. */
 uint32_t caf_set_layout_for_labels(uint64_t *record, size_t record_len,
                                    const uint32_t *labels, size_t label_count, uint32_t channels);
-/* Format and labels in one call: both are set, or neither. The format is of integers, big-endian; bytes
- * per packet as for caf_set_format. */
+
+/* Sets format and layout in one call, or neither: the format as caf_set_format does for integers,
+ * big-endian, and the layout as caf_set_layout_for_labels does. So a label_count that is not `channels`
+ * sets the format and clears the layout.
+ *
+ * Numbers: 19, 12, 5, 15, 17, 16. */
 uint32_t caf_configure_format(uint64_t *record, size_t record_len,
                               double rate, uint32_t channels, uint32_t bits,
                               const uint32_t *labels, size_t label_count);
 
-/* Stores the header from buf[0] on. */
+/* Stores the header from buf[0] on. A buffer of CAF_LONGEST_HEADER bytes has room for any.
+ *
+ * Numbers: 19, 10, 12, 13, 14. */
 uint32_t caf_write_header(uint64_t *record, size_t record_len, uint8_t *buf, size_t buf_len);
-/* Stores the bytes at the end of the file. */
+
+/* Stores the bytes at the end of the file.
+ *
+ * Numbers: 19, 10, 11, 14. */
 uint32_t caf_write_data(uint64_t *record, size_t record_len, uint8_t *buf, size_t buf_len,
                         const uint8_t *bytes, size_t byte_count);
+
 /* Packs the samples, three bytes each in the record's byte order, and stores them at the end of the
- * file. A resumed file without a format takes none: CAF_NO_FORMAT, also for no samples. */
+ * file. A resumed file without a format takes none: CAF_NO_FORMAT, also for no samples.
+ *
+ * Numbers: 19, 10, 11, 13, 14. */
 uint32_t caf_write_samples(uint64_t *record, size_t record_len, uint8_t *buf, size_t buf_len,
                            const int32_t *samples, size_t sample_count);
-/* Stores the eight bytes of the size field; nothing where the record is finished. */
+
+/* Stores the eight bytes of the size field; nothing where the record is finished.
+ *
+ * Numbers: 19, 11. */
 uint32_t caf_finish(uint64_t *record, size_t record_len, uint8_t *buf, size_t buf_len);
 
 /* Places in the array that caf_stats fills. */
@@ -320,7 +386,9 @@ enum caf_stats_place {
 };
 
 /* Done for any record, sound or not: writes out[0..1]. CAF_BAD_WRITER only where the array stands for
- * no record; then it writes nothing. With fewer than CAF_STATS_PLACES places: CAF_NO_ROOM. */
+ * no record; then it writes nothing. With fewer than CAF_STATS_PLACES places: CAF_NO_ROOM.
+ *
+ * Numbers: 14, 19. */
 uint32_t caf_stats(const uint64_t *record, size_t record_len, uint64_t *out, size_t out_len);
 
 /* The counted forms: the first n stores of the call, or all if there are fewer. The record is only
@@ -333,24 +401,36 @@ enum caf_counted_place {
     CAF_COUNTED_PLACES = 2
 };
 
+/* Numbers: 14, 19, 10, 12, 13, 14. */
 uint32_t caf_write_header_counted(const uint64_t *record, size_t record_len, uint8_t *buf, size_t buf_len,
                                   uint64_t n, uint64_t *out, size_t out_len);
+
+/* Numbers: 14, 19, 10, 11, 14. */
 uint32_t caf_write_data_counted(const uint64_t *record, size_t record_len, uint8_t *buf, size_t buf_len,
                                 const uint8_t *bytes, size_t byte_count,
                                 uint64_t n, uint64_t *out, size_t out_len);
+
+/* Numbers: 14, 19, 10, 11, 13, 14. */
 uint32_t caf_write_samples_counted(const uint64_t *record, size_t record_len, uint8_t *buf, size_t buf_len,
                                    const int32_t *samples, size_t sample_count,
                                    uint64_t n, uint64_t *out, size_t out_len);
+
+/* Numbers: 14, 19, 11. */
 uint32_t caf_finish_counted(const uint64_t *record, size_t record_len, uint8_t *buf, size_t buf_len,
                             uint64_t n, uint64_t *out, size_t out_len);
 
 /* ---- 24-bit samples, three bytes each */
 
-/* Writes 3 * sample_count bytes to out. CAF_NO_ROOM where out is shorter: writes nothing. */
+/* Writes 3 * sample_count bytes to out. CAF_NO_ROOM where out is shorter: writes nothing.
+ *
+ * Numbers: 14. */
 uint32_t caf_pack_24(const int32_t *samples, size_t sample_count, bool little_endian,
                      uint8_t *out, size_t out_len);
+
 /* Writes byte_count / 3 samples to out. CAF_ODD_LENGTH where 3 does not divide byte_count, then
- * CAF_NO_ROOM: writes nothing. */
+ * CAF_NO_ROOM: writes nothing.
+ *
+ * Numbers: 20, 14. */
 uint32_t caf_unpack_24(const uint8_t *bytes, size_t byte_count, bool little_endian,
                        int32_t *out, size_t out_len);
 

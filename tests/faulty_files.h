@@ -1,0 +1,65 @@
+/* Files for tests/numbers.c: each has one fault and, where one file can have both, the fault that a reading tests for next. */
+#ifndef FAULTY_FILES_H
+#define FAULTY_FILES_H
+
+#include "caf.h"
+
+struct file {
+    uint32_t number;
+    const char *text;
+    size_t len;
+};
+
+#define FILE_OF(number, text) {number, text, sizeof(text) - 1}
+#define CAFF "caff\0\1\0\0"
+#define ZEROS "\0\0\0\0\0\0\0" /* of a size field, its last byte is missing */
+#define DESC_OF(rate) "desc" ZEROS "\x20" rate "lpcm\0\0\0\0\0\0\0\6\0\0\0\1\0\0\0\2\0\0\0\x18"
+#define DESC DESC_OF("\x40\xe7\x70\0\0\0\0\0")
+#define NOT_A_NUMBER "\x7f\xf8\0\0\0\0\0\0"
+#define NEGATIVE "\xff\xff\xff\xff\xff\xff\xff\xf4"
+#define DATA(size) "data" ZEROS size "\0\0\0\0"
+
+static const struct file plain_files[] = {
+    FILE_OF(CAF_CUT_SHORT, "RIFF\0\0\0"),
+    FILE_OF(CAF_NOT_CAF, "RIFF\0\0\0\0fre"),
+    FILE_OF(CAF_NO_DATA, CAFF "fre"),
+    FILE_OF(CAF_CUT_SHORT, CAFF "desc" ZEROS),
+    FILE_OF(CAF_BAD_RATE, CAFF DESC_OF(NOT_A_NUMBER) "free" NEGATIVE),
+    FILE_OF(CAF_BAD_SIZE, CAFF "free" NEGATIVE),
+    FILE_OF(CAF_NO_DATA, CAFF "free" ZEROS "\x09"),
+};
+static const struct file resume_files[] = {
+    FILE_OF(CAF_BAD_SIZE, CAFF DESC DATA("\3")),
+    FILE_OF(CAF_TAIL_AFTER_DATA, CAFF DESC DATA("\4") "free"),
+};
+static const struct file strict_files[] = {
+    FILE_OF(CAF_CUT_SHORT, "RIFF\0\2\0"),
+    FILE_OF(CAF_NOT_CAF, "RIFF\0\2\0\0"),
+    FILE_OF(CAF_BAD_VERSION, "caff\0\2\0\0fre"),
+    FILE_OF(CAF_NO_DATA, CAFF "dat"),
+    FILE_OF(CAF_CUT_SHORT, CAFF "data" ZEROS),
+    FILE_OF(CAF_BAD_DESC, CAFF DATA("\3")),
+    FILE_OF(CAF_SECOND_DATA, CAFF DESC DATA("\4") DATA("\3")),
+    FILE_OF(CAF_BAD_SIZE, CAFF DESC "data" ZEROS "\3\0\0"),
+    FILE_OF(CAF_CUT_SHORT, CAFF "desc" ZEROS "\x20" NOT_A_NUMBER "lpcm"),
+    FILE_OF(CAF_BAD_RATE, CAFF DESC_OF(NOT_A_NUMBER) "data" ZEROS "\3"),
+    FILE_OF(CAF_DATA_PAST_END, CAFF DESC DATA("\xff")),
+};
+static const struct file block_files[] = {
+    FILE_OF(CAF_NOT_CAF, "RIFF\0\2\0\0"),
+    FILE_OF(CAF_BAD_VERSION, "caff\0\2\0\0" DATA("\3")),
+    FILE_OF(CAF_BAD_DESC, CAFF DATA("\3")),
+    FILE_OF(CAF_SECOND_DATA, CAFF DESC DATA("\4") DATA("\3")),
+    FILE_OF(CAF_BAD_SIZE, CAFF DESC "data" ZEROS "\3\0\0"),
+    FILE_OF(CAF_BAD_RATE, CAFF DESC_OF(NOT_A_NUMBER) "data" ZEROS "\3"),
+};
+static const struct file end_files[] = {
+    FILE_OF(CAF_NO_DATA, CAFF DESC "dat"),
+    FILE_OF(CAF_CUT_SHORT, CAFF DESC "data"),
+    FILE_OF(CAF_DATA_PAST_END, CAFF DESC DATA("\xff")),
+};
+static const struct file good[] = {FILE_OF(CAF_DONE, CAFF DESC DATA("\4"))};
+
+#define COUNT(array) (sizeof(array) / sizeof *(array))
+
+#endif
