@@ -1,0 +1,51 @@
+"""Films for tests/film and tests/recover: the programs, and what a film must be, made from the layout of document 01 and not by the library."""
+import pathlib
+import random
+import struct
+import subprocess
+
+import caf_files as caf
+
+TOP = pathlib.Path(__file__).resolve().parent.parent
+SEED = 20261115
+# what tests/film_writer.c sets: 48 kHz, 24 bits, Right and Left, which no tag names
+HEAD = caf.header() + caf.desc() + caf.chan(caf.DESCRIPTIONS, (2, 1))
+START = len(HEAD) + len(caf.data(b''))
+FIELD = START - 12
+FRAME = 6
+
+
+def closed(audio):
+    return HEAD + caf.data(audio)
+
+
+def sized(audio, field):
+    """A film with these eight bytes in its size field."""
+    return HEAD + b'data' + field + bytes(4) + audio
+
+
+def opened(audio):
+    return sized(audio, b'\xff' * 8)
+
+
+def size_field(audio):
+    return struct.pack('>q', len(audio) + 4)
+
+
+def noise(length):
+    return random.Random(SEED).randbytes(length)
+
+
+def build():
+    """Builds the layer, and gives the path of recover."""
+    made = subprocess.run([TOP / 'film' / 'build'], check=True, stdout=subprocess.PIPE, text=True).stdout.split()
+    return TOP / made[1]
+
+
+def build_test(name, *flags):
+    """Builds a test in C over the layer, and gives its path."""
+    library = subprocess.run([TOP / 'tools' / 'archive'], check=True, stdout=subprocess.PIPE, text=True).stdout.strip()
+    made = TOP / 'target' / name
+    subprocess.run(['cc', '-std=c11', '-O2', '-Wall', '-Wextra', '-Werror', f'-I{TOP}/include', f'-I{TOP}/film', *flags, '-o', made,
+                    TOP / 'tests' / f'{name}.c', TOP / 'target' / 'film' / 'libfilm.a', f'{library}/libcaf.a', '-pthread'], check=True)
+    return made
