@@ -1,108 +1,164 @@
 /* The meter: what may be billed for each file, by the strict reading.
  *
- *   meter FILE..
+ *   meter [--csv | --json] [--] FILE..
  *
- * A line for each file: its number, the chunk headers met, payload bytes, frames, open or closed, and
- * its name. A refused file has its number and name and bills nothing. Nor does a closed file without
- * payload where more bytes follow its data: a writer that was killed leaves a size field which says
- * that no samples came, and its samples, if they are silence, read as chunks. Its line has `unbilled`,
- * and standard error says why. The last line is the total, in 64 bits. A file that can't be read is
- * reported on standard error and the others are still metered.
+ * For people, a line for each file that was read, in one of three forms:
  *
- * Exit status: 0 every file was billed; 1 some were not, or could not be read; 2 no file was named, or
- * the total would not fit. */
-#define _FILE_OFFSET_BITS 64
+ *   number 0 chunks N payload BYTES frames N rate HZ seconds S open|closed NAME    billed
+ *   number 0 chunks N payload BYTES frames|packets N rate HZ unbilled NAME         read, and not billed
+ *   number N WORD chunks N refused NAME                                            refused
+ *
+ * Chunks are the chunk headers met. Seconds are frames / rate to the millisecond, rounded down, exactly
+ * (seconds.h). The word before the name is the file's state, and the name goes to the end of the line; one
+ * that could be misread stands in double quotes (names.h). Each file that is not billed has a line on
+ * standard error which says why; one that can't be read has only that. The others are still metered.
+ *
+ * A file that is read is not billed
+ * - where it is closed and has no payload, but more bytes follow its data: a writer that was killed leaves a
+ *   size field which says that no samples came, and its samples, if they are silence, read as chunks;
+ * - where its format is not `lpcm`, or has other than 1 frame per packet: it has packets, and its numbers do
+ *   not say how many frames they hold. With 0 bytes per packet it is `packets unknown`;
+ * - where it has 0 bytes per packet or 0 channels: then nothing is a frame;
+ * - where its rate is not above 0, is infinite, or so small that its milliseconds do not fit 64 bits.
+ *
+ * The last line adds up the lines of the billed files, and counts all:
+ *
+ *   total files N payload BYTES frames N seconds S open N closed N refused N unbilled N unreadable N
+ *
+ * Files are those billed, open and closed. Films of different rates add up in seconds. The total's seconds
+ * are the sum of those in the lines, so that the lines add up to it; what was rounded off stays below a
+ * millisecond for each file. Where a sum does not fit 64 bits (of seconds: in milliseconds) there is no
+ * total.
+ *
+ * For machines: --csv is RFC 4180, a header row and a row for each name, and no total, which the sum of a
+ * column would count twice. --json is an object with `files`, a list of objects, and `total`, an object, or
+ * null where there is none. Rows and objects have the state (billed, unbilled, refused, unreadable), the
+ * word for the number, open or closed as `data`, and why it is not billed; what is not known is empty or
+ * null. Of a name that is not UTF-8 the bytes stand in CSV as they are, and in JSON as names.h says.
+ *
+ * Exit status: 0 every file was billed; 1 some were not, or could not be read; 2 usage, or the total would
+ * not fit, or the bill could not be written. */
 #include <errno.h>
-#include <fcntl.h>
-#include <inttypes.h>
 #include <stdio.h>
 #include <string.h>
-#include <sys/mman.h>
-#include <sys/stat.h>
-#include <unistd.h>
 
-#include "caf.h"
+#include "names.h"
+#include "print.h"
 
-struct bill {
-    uint64_t files, payload, frames;
-    int status;
-};
+static const char usage[] = "usage: meter [--csv | --json] [--] FILE..\n";
 
-static void cannot(const char *name, const char *why, struct bill *bill) {
-    fprintf(stderr, "meter: %s: %s\n", name, why);
-    bill->status |= 1;
+static void complain(const char *name, const char *why) {
+    fputs("meter: ", stderr);
+    name_plain(stderr, name);
+    fprintf(stderr, ": %s\n", why);
 }
 
 /* Adds where the sum fits. */
-static int add(uint64_t *sum, uint64_t more) {
+static bool add(uint64_t *sum, uint64_t more) {
     if (UINT64_MAX - *sum < more)
-        return 0;
+        return false;
     *sum += more;
-    return 1;
+    return true;
 }
 
-static void meter(const char *name, const uint8_t *file, size_t len, struct bill *bill) {
-    uint64_t out[CAF_STRICT_PLACES] = {0};
-    uint32_t number = caf_read_strict(file, len, out, CAF_STRICT_PLACES);
-
-    if (number != CAF_DONE) {
-        printf("number %" PRIu32 " chunks %" PRIu64 " refused %s\n", number, out[CAF_STRICT_CHUNKS], name);
-        bill->status |= 1;
-        return;
+/* Counts an entry; false where a sum would not fit. */
+static bool count(const struct entry *entry, struct total *total) {
+    switch (entry->state) {
+    case REFUSED:
+        total->refused++;
+        break;
+    case UNBILLED:
+        total->unbilled++;
+        break;
+    case UNREADABLE:
+        total->unreadable++;
+        break;
+    case BILLED:
+        total->files++;
+        total->open += entry->is_open;
+        total->closed += !entry->is_open;
+        return add(&total->payload, entry->payload) && add(&total->frames, entry->count) &&
+               add(&total->milliseconds, entry->milliseconds);
     }
-    if (!out[CAF_STRICT_OPEN] && out[CAF_STRICT_PAYLOAD] == 0 && out[CAF_STRICT_DATA_START] < len) {
-        printf("number 0 chunks %" PRIu64 " unbilled %s\n", out[CAF_STRICT_CHUNKS], name);
-        fprintf(stderr, "meter: %s: no payload by its size field, but %" PRIu64 " bytes follow the data\n", name,
-                (uint64_t)len - out[CAF_STRICT_DATA_START]);
-        bill->status |= 1;
-        return;
-    }
-    printf("number 0 chunks %" PRIu64 " payload %" PRIu64 " frames %" PRIu64 " %s %s\n", out[CAF_STRICT_CHUNKS],
-           out[CAF_STRICT_PAYLOAD], out[CAF_STRICT_FRAMES], out[CAF_STRICT_OPEN] ? "open" : "closed", name);
-    bill->files++;
-    if (!add(&bill->payload, out[CAF_STRICT_PAYLOAD]) || !add(&bill->frames, out[CAF_STRICT_FRAMES])) {
-        fprintf(stderr, "meter: the total does not fit 64 bits\n");
-        bill->status |= 2;
-    }
+    return true;
 }
 
-static void meter_named(const char *name, struct bill *bill) {
-    struct stat about;
-    void *file = NULL;
-    size_t len;
-    int fd = open(name, O_RDONLY);
+static struct entry entry_of(const char *name) {
+    struct entry entry;
+    struct reading reading;
 
-    if (fd < 0 || fstat(fd, &about) < 0) {
-        cannot(name, strerror(errno), bill);
-    } else if (!S_ISREG(about.st_mode)) {
-        cannot(name, S_ISDIR(about.st_mode) ? "is a directory" : "is not a file", bill);
-    } else {
-        len = (size_t)about.st_size;
-        /* nothing of an empty file can be mapped; it needs no bytes to be refused */
-        if (len > 0)
-            file = mmap(NULL, len, PROT_READ, MAP_PRIVATE | MAP_NORESERVE, fd, 0);
-        if (file == MAP_FAILED) {
-            cannot(name, strerror(errno), bill);
-        } else {
-            meter(name, file, len, bill);
-            if (len > 0)
-                munmap(file, len);
+    memset(&entry, 0, sizeof entry);
+    entry.name = name;
+    if (read_named(name, &reading, entry.why, sizeof entry.why))
+        judge(&reading, &entry);
+    else
+        entry.state = UNREADABLE;
+    return entry;
+}
+
+/* Meters the files; gives the exit status as far as it does not depend on the end of the output. */
+static int meter(enum shape shape, char **names, int names_len) {
+    struct total total;
+    struct entry entry;
+    bool fits = true;
+    int i, status = 0;
+
+    memset(&total, 0, sizeof total);
+    print_begin(shape);
+    /* where the bill can't be written there is no point in going on */
+    for (i = 0; i < names_len && !ferror(stdout); i++) {
+        entry = entry_of(names[i]);
+        fits = count(&entry, &total) && fits;
+        if (entry.state != BILLED) {
+            complain(names[i], entry.why);
+            status = 1;
         }
+        print_entry(shape, &entry, i == 0);
     }
-    if (fd >= 0)
-        close(fd);
+    if (!fits) {
+        fputs("meter: the total does not fit 64 bits\n", stderr);
+        status = 2;
+    }
+    if (!ferror(stdout))
+        print_end(shape, fits ? &total : NULL);
+    return status;
+}
+
+/* The options: gives the place of the first name, or 0 where they are wrong. */
+static int options(int argc, char **argv, enum shape *shape) {
+    int i;
+
+    for (i = 1; i < argc && argv[i][0] == '-' && argv[i][1]; i++) {
+        if (strcmp(argv[i], "--") == 0)
+            return i + 1;
+        if (strcmp(argv[i], "--csv") == 0)
+            *shape = CSV;
+        else if (strcmp(argv[i], "--json") == 0)
+            *shape = JSON;
+        else
+            return 0;
+    }
+    return i;
 }
 
 int main(int argc, char **argv) {
-    struct bill bill = {0, 0, 0, 0};
-    int i;
+    enum shape shape = PLAIN;
+    int first = options(argc, argv, &shape), status;
 
-    if (argc < 2) {
-        fprintf(stderr, "usage: meter FILE..\n");
+    if (argc == 2 && strcmp(argv[1], "--help") == 0)
+        return fputs(usage, stdout) < 0 || fclose(stdout) != 0 ? 2 : 0;
+    if (first == 0 || first >= argc) {
+        fputs(usage, stderr);
         return 2;
     }
-    for (i = 1; i < argc; i++)
-        meter_named(argv[i], &bill);
-    printf("total files %" PRIu64 " payload %" PRIu64 " frames %" PRIu64 "\n", bill.files, bill.payload, bill.frames);
-    return bill.status & 2 ? 2 : bill.status;
+    setvbuf(stderr, NULL, _IOLBF, BUFSIZ);
+    guard_readings();
+    status = meter(shape, argv + first, argc - first);
+    /* a disk may be found full as late as here. (Where standard output is closed a film may get its number,
+     * and is not written to either: films are opened for reading.) */
+    if (ferror(stdout) || fclose(stdout) != 0) {
+        complain("standard output", strerror(errno));
+        return 2;
+    }
+    return status;
 }

@@ -14,9 +14,9 @@ def header(version=1):
     return b'caff' + struct.pack('>HH', version, 0)
 
 
-def desc(rate=48000.0, channels=2, bits=24, flags=0, packet=None):
+def desc(rate=48000.0, channels=2, bits=24, flags=0, packet=None, kind=b'lpcm', per_packet=1):
     packet = -(-bits // 8) * channels if packet is None else packet
-    return chunk(b'desc', struct.pack('>d', rate) + b'lpcm' + struct.pack('>IIIII', flags, packet, 1, channels, bits))
+    return chunk(b'desc', struct.pack('>d', rate) + kind + struct.pack('>IIIII', flags, packet, per_packet, channels, bits))
 
 
 def chan(tag, labels=(), bitmap=0):
