@@ -6,6 +6,7 @@ unsafe extern "C" {
     fn caf_read_strict(file: *const u8, file_len: usize, out: *mut u64, out_len: usize) -> u32;
     fn caf_layout_for_labels(labels: *const u32, count: usize, out: *mut u64, out_len: usize) -> u32;
     fn caf_pack_24(samples: *const i32, count: usize, little: bool, out: *mut u8, out_len: usize) -> u32;
+    fn caf_unpack_24(bytes: *const u8, count: usize, little: bool, out: *mut i32, out_len: usize) -> u32;
     fn caf_new(record: *mut u64, record_len: usize) -> u32;
     fn caf_set_format(
         record: *mut u64,
@@ -15,6 +16,14 @@ unsafe extern "C" {
         bits: u32,
         is_float: bool,
         little: bool,
+    ) -> u32;
+    fn caf_set_layout_tag(record: *mut u64, record_len: usize, tag: u32) -> u32;
+    fn caf_set_layout_for_labels(
+        record: *mut u64,
+        record_len: usize,
+        labels: *const u32,
+        label_count: usize,
+        channels: u32,
     ) -> u32;
     fn caf_configure_format(
         record: *mut u64,
@@ -74,6 +83,10 @@ pub fn pack(samples: &[i32], little: bool, out: &mut [u8]) -> u32 {
     unsafe { caf_pack_24(samples.as_ptr(), samples.len(), little, out.as_mut_ptr(), out.len()) }
 }
 
+pub fn unpack(bytes: &[u8], little: bool, out: &mut [i32]) -> u32 {
+    unsafe { caf_unpack_24(bytes.as_ptr(), bytes.len(), little, out.as_mut_ptr(), out.len()) }
+}
+
 const FEEDER: usize = 18;
 
 /// A feeding record as a caller in C keeps it.
@@ -111,6 +124,16 @@ impl Writer {
 
     pub fn set_format(&mut self, rate: f64, channels: u32, bits: u32, is_float: bool, little: bool) -> u32 {
         unsafe { caf_set_format(self.0.as_mut_ptr(), RECORD, rate, channels, bits, is_float, little) }
+    }
+
+    pub fn set_tag(&mut self, tag: u32) -> u32 {
+        unsafe { caf_set_layout_tag(self.0.as_mut_ptr(), RECORD, tag) }
+    }
+
+    /// For as many channels as there are labels.
+    pub fn set_labels(&mut self, labels: &[u32]) -> u32 {
+        let (record, count) = (self.0.as_mut_ptr(), labels.len());
+        unsafe { caf_set_layout_for_labels(record, RECORD, labels.as_ptr(), count, count as u32) }
     }
 
     pub fn configure(&mut self, rate: f64, channels: u32, bits: u32, labels: &[u32]) -> u32 {

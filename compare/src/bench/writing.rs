@@ -1,0 +1,157 @@
+//! The writer's calls and its lookup of labels, beside the Rust's.
+
+use std::hint::black_box;
+use std::io::Cursor;
+use std::mem::ManuallyDrop;
+
+use oracle::caf::{CAFWriter, ChannelLabel, ChannelLayoutTag, Endianness, PCMDataType};
+
+use crate::linked::{self, Writer};
+use crate::race::{Goal, Table, Windows, repeated};
+use crate::{KIB, MIB};
+
+/// Head, format and the start of the data.
+const HEADER: usize = 68;
+
+/// A writer of the text that has just written its header; it is not dropped, since that would finish it.
+fn rust_writer(buffer: &mut [u8]) -> ManuallyDrop<CAFWriter<Cursor<&mut [u8]>>> {
+    let mut writer = ManuallyDrop::new(CAFWriter::new(Cursor::new(buffer)));
+    writer
+        .set_audio_format_with_options(48000.0, 2, 24, PCMDataType::SignedInteger, Endianness::BigEndian)
+        .expect("a format");
+    writer.write_header().expect("a header");
+    writer
+}
+
+fn our_writer(buffer: &mut [u8]) -> Writer {
+    let mut writer = Writer::new();
+    assert_eq!(writer.set_format(48000.0, 2, 24, false, false), 0);
+    assert_eq!(writer.header(buffer), 0);
+    writer
+}
+
+/// Data calls go through a region that no cache of a core holds, from its start to its end, and again.
+pub fn data_calls(table: &Table) {
+    const REGION: usize = 16 * MIB;
+    const A_WINDOW: usize = 2 * MIB;
+    for (name, size, most) in
+        [("4 KiB", 4 * KIB, 0.9), ("64 KiB", 64 * KIB, 0.8), ("1 MiB", MIB, 1.05), ("64 MiB", 64 * MIB, 1.0)]
+    {
+        let what = format!("data call of {name}");
+        let Some(row) = table.row(what, "the Rust writer", Goal::Ratio(most)) else { continue };
+        let bytes: Vec<u8> = (0..size).map(|i| i as u8).collect();
+        let [mut a, mut b] = [(); 2].map(|_| vec![0xa5; HEADER + REGION.max(size)]);
+        let (calls, windows) = ((A_WINDOW / size).max(1), REGION.max(size) / A_WINDOW.max(size));
+        let ours = |timed: &mut Windows| {
+            let mut writer = our_writer(&mut a);
+            for _ in 0..windows {
+                timed.window(calls, || (0..calls).for_each(|_| assert_eq!(writer.data(&mut a, black_box(&bytes)), 0)));
+            }
+        };
+        let rust = |timed: &mut Windows| {
+            let mut writer = rust_writer(&mut b);
+            for _ in 0..windows {
+                timed.window(calls, || (0..calls).for_each(|_| writer.write_data(black_box(&bytes)).expect("room")));
+            }
+        };
+        row.race(Box::new(ours), Box::new(rust));
+        assert!(a[HEADER..] == b[HEADER..]);
+    }
+}
+
+/// A writer of 64 channels that has written its header, with so many labels described or with a tag, and its file.
+fn many_channels(labels: Option<&[u32]>) -> (Writer, Vec<u8>) {
+    let (mut writer, mut file) = (Writer::new(), vec![0; 2 * KIB]);
+    assert_eq!(writer.set_format(48000.0, 64, 24, false, false), 0);
+    let set = match labels {
+        Some(labels) => writer.set_labels(labels),
+        None => writer.set_tag(ChannelLayoutTag::Stereo as u32),
+    };
+    assert_eq!(set, 0);
+    assert_eq!(writer.header(&mut file), 0);
+    (writer, file)
+}
+
+/// What a call costs that does nothing: the record that it is lent is looked at all the same.
+pub fn empty_calls(table: &Table) {
+    let empty = |labels| {
+        let (mut writer, mut file) = many_channels(labels);
+        repeated(move || assert_eq!(writer.data(black_box(&mut file), &[]), 0))
+    };
+    let labels: Vec<_> = (0..64).map(|i| ChannelLabel::AmbisonicW as u32 + i % 8).collect();
+    if let Some(row) = table.row("empty data call, layout by tag", "the Rust writer", Goal::Nanoseconds(40.0)) {
+        let mut file = vec![0; 2 * KIB];
+        let mut writer = rust_writer(&mut file);
+        row.race(empty(None), repeated(move || writer.write_data(black_box(&[])).expect("room")));
+    }
+    if let Some(row) = table.row("empty data call, 64 labels described", "the same by tag", Goal::Ratio(1.1)) {
+        row.race(empty(Some(&labels)), empty(None));
+    }
+}
+
+pub fn small_samples(table: &Table) {
+    const CALLS: usize = 2_000;
+    let Some(row) = table.row("samples call of two", "the Rust writer", Goal::Ratio(2.0)) else { return };
+    let [mut a, mut b] = [(); 2].map(|_| vec![0xa5; HEADER + CALLS * 6]);
+    let ours = |timed: &mut Windows| {
+        let mut writer = our_writer(&mut a);
+        timed.window(CALLS, || (0..CALLS).for_each(|_| assert_eq!(writer.samples(&mut a, black_box(&[1, -1])), 0)));
+    };
+    let rust = |timed: &mut Windows| {
+        let mut writer = rust_writer(&mut b);
+        timed.window(CALLS, || {
+            (0..CALLS).for_each(|_| writer.write_pcm_24bit_as_packed(black_box(&[1, -1])).expect("room"))
+        });
+    };
+    row.race(Box::new(ours), Box::new(rust));
+    assert_eq!(a, b);
+}
+
+/// From a fresh writer to a closed file of one frame.
+pub fn clip(table: &Table) {
+    let Some(row) = table.row("whole clip of 98 bytes", "the Rust writer", Goal::Ratio(1.1)) else { return };
+    let [mut a, mut b] = [(); 2].map(|_| vec![0xa5u8; 98]);
+    let ours = || {
+        let mut writer = Writer::new();
+        assert_eq!(writer.configure(48000.0, 2, 24, &[1, 2]), 0);
+        assert_eq!(writer.header(&mut a), 0);
+        assert_eq!(writer.samples(&mut a, &[1, -1]), 0);
+        assert_eq!(writer.finish(&mut a), 0);
+        black_box(&mut a);
+    };
+    let rust = || {
+        let mut writer = ManuallyDrop::new(CAFWriter::new(Cursor::new(&mut b[..])));
+        let labels = [ChannelLabel::Left, ChannelLabel::Right];
+        writer.configure_audio_format(48000, 2, 24, &labels).expect("a format");
+        writer.write_header().expect("a header");
+        writer.write_pcm_24bit_as_packed(&[1, -1]).expect("room");
+        writer.finish().expect("finish");
+        // its own memory is given back, its finish is done
+        drop(ManuallyDrop::into_inner(writer));
+        black_box(&mut b);
+    };
+    row.race(repeated(ours), repeated(rust));
+    assert_eq!(a, b);
+}
+
+/// The tag for labels that the first row has, the last, and none.
+pub fn lookups(table: &Table) {
+    use ChannelLabel::*;
+    let last = [Center, Left, Right, LeftSurround, RightSurround, RearSurroundLeft, RearSurroundRight, CenterSurround];
+    let mut none = last;
+    none.reverse();
+    for (name, labels) in [("first row", &[Center][..]), ("last row", &last), ("miss", &none)] {
+        let Some(row) = table.row(format!("lookup, {name}"), "the Rust", Goal::Ratio(4.0)) else { continue };
+        let numbers: Vec<_> = labels.iter().map(|&label| label as u32).collect();
+        let tag = ChannelLayoutTag::for_channel_labels(labels).map_or(0, |tag| tag as u64);
+        assert_eq!(linked::layout_tag(&numbers), tag);
+        row.race(
+            repeated(|| {
+                black_box(linked::layout_tag(black_box(&numbers)));
+            }),
+            repeated(|| {
+                black_box(ChannelLayoutTag::for_channel_labels(black_box(labels)));
+            }),
+        );
+    }
+}
