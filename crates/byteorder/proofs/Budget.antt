@@ -51,10 +51,10 @@ put-done w n at buf {bytes} {last} {count} h is done =
     let many : min w (length bytes) ≡ w = rw (is, length-bytes) (omega arith) in
     (rw (done .0, many) (told w (hasRoom at w (length buf)) h), rw (← is) (done .1))
 
--- a number put right behind a front part takes the place of what stood there
-pub put-behind : (w n k : ℕ) (front old rest : List ℕ) {before after : List ℕ} → length front ≡ k → length old ≡ w → before ≡ front ++ old ++ rest
+-- a number put right after a front part takes the place of what stood there
+pub put-after : (w n k : ℕ) (front old rest : List ℕ) {before after : List ℕ} → length front ≡ k → length old ≡ w → before ≡ front ++ old ++ rest
     → after ≡ storeFirst w (bigBytes w n) k before → after ≡ front ++ bigBytes w n ++ rest
-put-behind w n k front old rest {before} {after} lf lo is put =
+put-after w n k front old rest {before} {after} lf lo is put =
     let bytes = bigBytes w n in
     let whole = front ++ old ++ rest in
     let lb : length bytes ≡ w = length-bytes w n in

@@ -31,8 +31,8 @@ module _ {A : Type 0} (buf : List A) (p : ℕ) (vs : List A) (room : p + length 
   pub before-kept : (i : ℕ) (d : A) → i < p → getD (splice buf p vs) i d ≡ getD buf i d
   before-kept i d h = sym (getD-take p (splice buf p vs) i d h) ∙ ap (λ (l : List A). getD l i d) front-kept ∙ getD-take p buf i d h
 
-  pub behind-kept : (i : ℕ) (d : A) → p + length vs ≤ i → getD (splice buf p vs) i d ≡ getD buf i d
-  behind-kept i d h =
+  pub after-kept : (i : ℕ) (d : A) → p + length vs ≤ i → getD (splice buf p vs) i d ≡ getD buf i d
+  after-kept i d h =
       let e : p + length vs + (i - (p + length vs)) ≡ i = omega arith in
       rw (← e) (sym (getD-drop (p + length vs) (splice buf p vs) (i - (p + length vs)) d) ∙ ap (λ (l : List A). getD l (i - (p + length vs)) d) rest-kept ∙ getD-drop (p + length vs) buf (i - (p + length vs)) d)
 
@@ -70,10 +70,10 @@ module _ {A : Type 0} (n : ℕ) (vs : List A) (p : ℕ) (buf : List A) where
   pub store-before : (i : ℕ) (d : A) → i < p → getD (storeFirst n vs p buf) i d ≡ getD buf i d
   store-before i d h = by-room (λ (l : List A) (k : ℕ). getD l i d ≡ getD buf i d) refl (λ room. before-kept buf p (take n vs) room i d h)
 
-  pub store-behind : (i : ℕ) (d : A) → p + storeCount n (length vs) p (length buf) ≤ i → getD (storeFirst n vs p buf) i d ≡ getD buf i d
-  store-behind i d =
+  pub store-after : (i : ℕ) (d : A) → p + storeCount n (length vs) p (length buf) ≤ i → getD (storeFirst n vs p buf) i d ≡ getD buf i d
+  store-after i d =
       by-room (λ (l : List A) (k : ℕ). p + k ≤ i → getD l i d ≡ getD buf i d) (λ h. refl)
-      (λ room h. behind-kept buf p (take n vs) room i d (omega (arith, many)))
+      (λ room h. after-kept buf p (take n vs) room i d (omega (arith, many)))
 
   pub store-there : (i : ℕ) (d : A) → i < storeCount n (length vs) p (length buf) → getD (storeFirst n vs p buf) (p + i) d ≡ getD vs i d
   store-there i d =

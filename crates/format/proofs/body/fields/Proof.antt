@@ -5,7 +5,7 @@ use lib.ListN.{replicate}
 use borrow.Author.Needs.{needs}
 use Rattle.byteorder.specs.Big.{bigBytes}
 use Rattle.byteorder.specs.Rate.{rateBits}
-use Rattle.byteorder.proofs.Budget.{put-behind}
+use Rattle.byteorder.proofs.Budget.{put-after}
 use Rattle.format.specs.Desc.{descBody}
 use Rattle.format.proofs.body.fields.Statement.{statement}
 use Rattle.format.proofs.body.fields.Tie as tie
@@ -74,13 +74,13 @@ returns c =
     let b4 : List ℕ = b3 ++ bigBytes 4 (f .«bytes_per_packet») in
     let b5 : List ℕ = b4 ++ bigBytes 4 (f .«frames_per_packet») in
     let b6 : List ℕ = b5 ++ bigBytes 4 (f .«channels_per_frame») in
-    let s1 = rw (p1 .before .before .pre) at (put-behind 8 (a .rate-bits) 0 [] (zeros 8) (zeros 24) refl refl refl (p1 .put-u64 .ensures .1)) in
-    let s2 = put-behind 4 (f .«format_id») 8 b1 (zeros 4) (zeros 20) refl refl s1 (p2 .put-u32 .ensures .1) in
-    let s3 = put-behind 4 (f .«format_flags») 12 b2 (zeros 4) (zeros 16) refl refl s2 (p3 .put-u322 .ensures .1) in
-    let s4 = put-behind 4 (f .«bytes_per_packet») 16 b3 (zeros 4) (zeros 12) refl refl s3 (p4 .put-u323 .ensures .1) in
-    let s5 = put-behind 4 (f .«frames_per_packet») 20 b4 (zeros 4) (zeros 8) refl refl s4 (p5 .put-u324 .ensures .1) in
-    let s6 = put-behind 4 (f .«channels_per_frame») 24 b5 (zeros 4) (zeros 4) refl refl s5 (p6 .put-u325 .ensures .1) in
-    put-behind 4 (f .«bits_per_channel») 28 b6 (zeros 4) [] refl refl s6 (p7 .put-u326 .ensures .1)
+    let s1 = rw (p1 .before .before .pre) at (put-after 8 (a .rate-bits) 0 [] (zeros 8) (zeros 24) refl refl refl (p1 .put-u64 .ensures .1)) in
+    let s2 = put-after 4 (f .«format_id») 8 b1 (zeros 4) (zeros 20) refl refl s1 (p2 .put-u32 .ensures .1) in
+    let s3 = put-after 4 (f .«format_flags») 12 b2 (zeros 4) (zeros 16) refl refl s2 (p3 .put-u322 .ensures .1) in
+    let s4 = put-after 4 (f .«bytes_per_packet») 16 b3 (zeros 4) (zeros 12) refl refl s3 (p4 .put-u323 .ensures .1) in
+    let s5 = put-after 4 (f .«frames_per_packet») 20 b4 (zeros 4) (zeros 8) refl refl s4 (p5 .put-u324 .ensures .1) in
+    let s6 = put-after 4 (f .«channels_per_frame») 24 b5 (zeros 4) (zeros 4) refl refl s5 (p6 .put-u325 .ensures .1) in
+    put-after 4 (f .«bits_per_channel») 28 b6 (zeros 4) [] refl refl s6 (p7 .put-u326 .ensures .1)
 
 pub fields-spec : {M : Type 1} → statement M
 fields-spec =
