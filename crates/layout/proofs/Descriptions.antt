@@ -31,7 +31,7 @@ next-description ls i h =
 first-length : (ls : List ℕ) (i : ℕ) → i ≤ length ls → length (descriptions (take i ls)) ≡ i * 20
 first-length ls i h = let e = length-take-le i ls h in descriptions-length (take i ls) ∙ omega arith
 
--- one more is stored behind those of the first i labels
+-- one more is stored after those of the first i labels
 pub described : (d : List ℕ) (at i : ℕ) (ls : List ℕ) {bytes e f : List ℕ} → i < length ls → at + 20 * length ls ≤ length d
     → length e ≡ length d → e ≡ splice d at (descriptions (take i ls)) → bytes ≡ description (getD ls i 0) → f ≡ storeFirst 20 bytes (at + i * 20) e
     → (length f ≡ length d) × (f ≡ splice d at (descriptions (take (i + 1) ls)))

@@ -1,4 +1,4 @@
--- Labels put one after the other into zeros are the labels with zeros behind them.
+-- Labels put one after the other into zeros are the labels with zeros after them.
 use mathlib.Core.Path.{_≡_, ap, sym, _∙_}
 use mathlib.Core.List.{List, _++_}
 use Prim.Native.Nat.{ℕ, zero, suc, _-_, _<_}

@@ -3,6 +3,6 @@ use Prim.Native.Nat.{ℕ, _-_}
 use mathlib.Core.List.{List, _++_}
 use lib.ListN.{length, replicate}
 
--- the labels, and zeros behind them in so many places
+-- the labels, and zeros after them in so many places
 abbrev pub paddedTo : ℕ → List ℕ → List ℕ
 paddedTo places ls = ls ++ replicate (places - length ls) 0

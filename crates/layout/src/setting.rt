@@ -46,7 +46,7 @@ pub fn labels_number(labels: &[u32], channels: u32) -> u32
     DONE
 }
 
-fn zeros_behind(labels: &[u32]) -> [u32; 64]
+fn zeros_after(labels: &[u32]) -> [u32; 64]
     requires { ⌜ length (now labels) ≤ 64 ⌝ }
     ensures { λ r. ⌜ r ≡ padded (now (labels .entry)) ⌝ }
 {
@@ -64,7 +64,7 @@ pub fn padded_labels(labels: &[u32]) -> [u32; 64]
     ensures { λ r. ⌜ r ≡ padded (take labelPlaces (now (labels .entry))) ⌝ }
 {
     if labels.len() <= LABEL_PLACES {
-        return zeros_behind(labels);
+        return zeros_after(labels);
     }
-    zeros_behind(&labels[..LABEL_PLACES])
+    zeros_after(&labels[..LABEL_PLACES])
 }

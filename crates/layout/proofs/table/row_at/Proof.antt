@@ -1,6 +1,6 @@
 use mathlib.Core.Path.{sym, ap}
 use Rattle.layout.specs.Table.{standardLayouts, rowAt}
-use Rattle.layout.proofs.Rows.{all-refused, row-behind}
+use Rattle.layout.proofs.Rows.{all-refused, row-after}
 use Rattle.layout.proofs.table.row_at.Statement.{statement}
 use Rattle.layout.proofs.table.row_at.Tie as tie
 
@@ -177,7 +177,7 @@ unfolding standardLayouts
 returns-43 c = sym (ap rowAt (c .match .keys43))
 
 returns-44 : tie.Need-returns-44
-returns-44 c = row-behind (c .before .args .i) (all-refused (c .before .args .i) 43 (c .match .rest))
+returns-44 c = row-after (c .before .args .i) (all-refused (c .before .args .i) 43 (c .match .rest))
 
 pub row-at-spec : {M : Type 1} → statement M
 row-at-spec =

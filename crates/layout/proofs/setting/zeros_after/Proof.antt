@@ -7,8 +7,8 @@ use lib.Seq.{paste-zero}
 use borrow.Author.Needs.{needs}
 use Rattle.layout.specs.Setting.{labelPlaces}
 use Rattle.layout.proofs.Padding.{placed, next-placed, all-placed}
-use Rattle.layout.proofs.setting.zeros_behind.Statement.{statement}
-use Rattle.layout.proofs.setting.zeros_behind.Tie as tie
+use Rattle.layout.proofs.setting.zeros_after.Statement.{statement}
+use Rattle.layout.proofs.setting.zeros_after.Tie as tie
 
 abbrev Inv-loop : tie.InvT-loop
 Inv-loop labels out₀ i₀ out i = (i ≤ length labels) × (out ≡ placed labelPlaces labels i)
@@ -48,8 +48,8 @@ returns c =
     let e : c .before .loop .i ≡ length ls = omega arith in
     c .before .loop .inv .1 ∙ rw e (all-placed labelPlaces ls)
 
-pub zeros-behind-spec : {M : Type 1} → statement M
-zeros-behind-spec =
+pub zeros-after-spec : {M : Type 1} → statement M
+zeros-after-spec =
     tie.close
     (tie.spec
     Inv-loop
