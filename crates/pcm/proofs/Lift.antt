@@ -1,13 +1,15 @@
 -- Samples of 32 bits and their low 24 bits, through the casts of the code.
 use mathlib.Core.Path.{_≡_, refl, ap}
+use mathlib.Core.Bool.{Bool, true, false}
 use Prim.Native.Nat.{ℕ, suc, _+_, _-_, _%_, _^_, _≤_, _<_}
 use native.Mathlib.Omega.{arith}
+use lib.Dec.{ltb}
 use lib.IntN.{ℤ, pos, negsuc, _+ℤ_, _-ℤ_}
 use mir.Syntax.{w32, w64}
 use mir.Val.{SFits, toZ, ofZ}
 use mir.ValLaws.{toZ-ofZ, toZ-pos}
-use borrow.Author.Tests.{le-ltb, lt-ltb}
-use Rattle.pcm.specs.Sample.{low24}
+use borrow.Author.Tests.{le-ltb, lt-ltb, ltb-true, ltb-false}
+use Rattle.pcm.specs.Sample.{low24, signed24}
 
 -- a sample and 2^32
 abbrev pub lift : ℤ → ℕ
@@ -41,11 +43,18 @@ cast z h = rw (added z h) (toZ-ofZ w64 (pos (lift z)) (lift-fits z h))
 pub passed : (z : ℤ) → SFits w32 z → low24 (toZ w32 (ofZ w32 z)) ≡ low24 z
 passed z h = ap low24 (toZ-ofZ w32 z h)
 
--- the other way: from 2^23 up the code takes 2^24 away
-pub dropped : (u : ℕ) → 2 ^ 23 ≤ u → u < 2 ^ 24 → toZ w32 u -ℤ pos (2 ^ 24) ≡ negsuc (2 ^ 24 - 1 - u)
-dropped u h k =
-    let e : 2 ^ 24 - suc u ≡ 2 ^ 24 - 1 - u = omega arith in
-    rw (toZ-pos w32 u (omega arith), lt-ltb u (2 ^ 24) k, e)
-
-pub dropped-fits : (u : ℕ) → 2 ^ 23 ≤ u → SFits w32 (negsuc (2 ^ 24 - 1 - u))
-dropped-fits u h = omega arith
+-- the other way: 2^23 is added, the numbers from 2^24 on start again at 0, and 2^23 is taken away
+pub turned : (u : ℕ) → u < 2 ^ 24 → (toZ w32 ((u + 2 ^ 23) % 2 ^ 24) -ℤ pos (2 ^ 23) ≡ signed24 u) × SFits w32 (signed24 u)
+turned u h = go (ltb u (2 ^ 23)) refl
+  where
+    go : (b : Bool) → ltb u (2 ^ 23) ≡ b → (toZ w32 ((u + 2 ^ 23) % 2 ^ 24) -ℤ pos (2 ^ 23) ≡ signed24 u) × SFits w32 (signed24 u)
+    go true e =
+        let below : u < 2 ^ 23 = ltb-true u (2 ^ 23) e in
+        let m : (u + 2 ^ 23) % 2 ^ 24 ≡ u + 2 ^ 23 = omega arith in
+        let d : u + 2 ^ 23 - 2 ^ 23 ≡ u = omega arith in
+        (rw (m, toZ-pos w32 (u + 2 ^ 23) (omega arith), le-ltb (u + 2 ^ 23) (2 ^ 23) (omega arith), e, d), rw e (omega arith))
+    go false e =
+        let above : 2 ^ 23 ≤ u = ltb-false u (2 ^ 23) e in
+        let m : (u + 2 ^ 23) % 2 ^ 24 ≡ u - 2 ^ 23 = omega arith in
+        let d : 2 ^ 23 - suc (u - 2 ^ 23) ≡ 2 ^ 24 - 1 - u = omega arith in
+        (rw (m, toZ-pos w32 (u - 2 ^ 23) (omega arith), lt-ltb (u - 2 ^ 23) (2 ^ 23) (omega arith), e, d), rw e (omega arith))

@@ -25,7 +25,7 @@ length-packed e (x ∷ xs) =
     let l = length-packed e xs in
     simp length-append (omega arith)
 
--- the bytes behind those of the first k samples are those of the samples behind them
+-- the bytes after those of the first k samples are those of the samples after them
 drop-packed : (e : Endianness) (k : ℕ) (xs : List ℤ) → drop (sampleSize * k) (packed e xs) ≡ packed e (drop k xs)
 drop-packed e zero xs = refl
 drop-packed e (suc k) [] = let h : sampleSize * suc k ≡ suc (suc (suc (sampleSize * k))) = omega arith in rw h

@@ -7,6 +7,7 @@ use byteorder::store::store;
 use format::Endianness;
 ghost use mathlib.Core.Path.{_≡_};
 ghost use Prim.Native.Nat.{_+_, _*_, _≤_, min};
+ghost use mathlib.Core.List.{_++_};
 ghost use lib.ListN.{length, take};
 ghost use Rattle.byteorder.specs.Splice.{splice, storeCount, storeFirst};
 ghost use Rattle.pcm.specs.Sample.{low24, bytes24};
@@ -22,8 +23,63 @@ fn put_sample(buf: &mut [u8], at: usize, x: i32, endianness: Endianness)
     buf[at + 2] = b[2];
 }
 
-// The first k samples, whole. The byte order is the same at each turn, so the compiler makes one loop for each order.
-fn put_samples(samples: &[i32], endianness: Endianness, buf: &mut [u8], at: usize, k: usize)
+// Four bytes by value: a compiler stores them at once.
+fn put_word(buf: &mut [u8], at: usize, word: [u8; 4])
+    requires { ⌜ at + 4 ≤ length (now buf) ⌝ }
+    ensures { λ _. ⌜ now (buf .exit) ≡ splice (now (buf .entry)) at word ⌝ }
+{
+    buf[at] = word[0];
+    buf[at + 1] = word[1];
+    buf[at + 2] = word[2];
+    buf[at + 3] = word[3];
+}
+
+// The bytes of four samples, in three stores.
+fn put_twelve(buf: &mut [u8], at: usize, a: [u8; 3], b: [u8; 3], c: [u8; 3], d: [u8; 3])
+    requires { ⌜ at + 12 ≤ length (now buf) ⌝ }
+    ensures { λ _. ⌜ now (buf .exit) ≡ splice (now (buf .entry)) at (a ++ (b ++ (c ++ d))) ⌝ }
+{
+    put_word(buf, at, [a[0], a[1], a[2], b[0]]);
+    put_word(buf, at + 4, [b[1], b[2], c[0], c[1]]);
+    put_word(buf, at + 8, [c[2], d[0], d[1], d[2]]);
+}
+
+// Whole samples, four at a time: how many of the first k there are.
+fn put_fours(samples: &[i32], endianness: Endianness, buf: &mut [u8], at: usize, k: usize) -> usize
+    requires { ⌜ (k ≤ length (now samples)) × (at + sampleSize * k ≤ length (now buf)) ⌝ }
+    ensures { λ n. ⌜ (n ≤ k) × (now (buf .exit) ≡ splice (now (buf .entry)) at (packed endianness (take n (now (samples .entry))))) ⌝ }
+{
+    let mut i: usize = 0;
+    while 4 <= k - i {
+        let a = sample_bytes(samples[i], endianness);
+        let b = sample_bytes(samples[i + 1], endianness);
+        let c = sample_bytes(samples[i + 2], endianness);
+        let d = sample_bytes(samples[i + 3], endianness);
+        put_twelve(buf, at + SAMPLE_SIZE * i, a, b, c, d);
+        i += 4;
+    }
+    i
+}
+
+// The order is told before the loop, so that the compiler makes a loop for each: within one it would be looked at for every byte.
+fn put_ordered(
+    samples: &[i32],
+    endianness: Endianness,
+    buf: &mut [u8],
+    at: usize,
+    k: usize,
+) -> usize
+    requires { ⌜ (k ≤ length (now samples)) × (at + sampleSize * k ≤ length (now buf)) ⌝ }
+    ensures { λ n. ⌜ (n ≤ k) × (now (buf .exit) ≡ splice (now (buf .entry)) at (packed endianness (take n (now (samples .entry))))) ⌝ }
+{
+    match endianness {
+        Endianness::BigEndian => put_fours(samples, Endianness::BigEndian, buf, at, k),
+        Endianness::LittleEndian => put_fours(samples, Endianness::LittleEndian, buf, at, k),
+    }
+}
+
+// The first k samples, one at a time.
+fn put_each(samples: &[i32], endianness: Endianness, buf: &mut [u8], at: usize, k: usize)
     requires { ⌜ (k ≤ length (now samples)) × (at + sampleSize * k ≤ length (now buf)) ⌝ }
     ensures { λ _. ⌜ now (buf .exit) ≡ splice (now (buf .entry)) at (packed endianness (take k (now (samples .entry)))) ⌝ }
 {
@@ -32,6 +88,15 @@ fn put_samples(samples: &[i32], endianness: Endianness, buf: &mut [u8], at: usiz
         put_sample(buf, at + SAMPLE_SIZE * i, samples[i], endianness);
         i += 1;
     }
+}
+
+// The first k samples, whole.
+fn put_samples(samples: &[i32], endianness: Endianness, buf: &mut [u8], at: usize, k: usize)
+    requires { ⌜ (k ≤ length (now samples)) × (at + sampleSize * k ≤ length (now buf)) ⌝ }
+    ensures { λ _. ⌜ now (buf .exit) ≡ splice (now (buf .entry)) at (packed endianness (take k (now (samples .entry)))) ⌝ }
+{
+    let n = put_ordered(samples, endianness, buf, at, k);
+    put_each(&samples[n..], endianness, buf, at + SAMPLE_SIZE * n, k - n);
 }
 
 // The first r bytes of a sample.

@@ -1,9 +1,9 @@
 // One sample: its low 24 bits and their three bytes.
+use byteorder::read::be_u32;
 use format::Endianness;
 ghost use mathlib.Core.Path.{_≡_};
-ghost use mathlib.Core.List.{[], _∷_};
 ghost use Prim.Native.Nat.{_<_, _^_};
-ghost use Rattle.byteorder.specs.Big.{bigAt};
+ghost use lib.ListN.{getD};
 ghost use Rattle.pcm.specs.Sample.{low24, bytes24, signed24, number24};
 
 // Bytes of a packed sample.
@@ -31,30 +31,24 @@ pub(crate) fn sample_bytes(x: i32, endianness: Endianness) -> [u8; 3]
     }
 }
 
-// The number of 24 bits that three bytes make.
-fn number_of(high: u8, middle: u8, low: u8) -> u32
-    ensures { λ r. ⌜ (r ≡ bigAt 3 (high ∷ middle ∷ low ∷ []) 0) × (r < 2 ^ 24) ⌝ }
-{
-    (high as u32 * 256 + middle as u32) * 256 + low as u32
-}
-
-// The top one of the 24 bits is the sign.
+// The top one of the 24 bits is the sign. With that bit turned over the numbers go up from the least sample on, so that no test is
+// needed.
 fn signed_of(u: u32) -> i32
     requires { ⌜ u < 2 ^ 24 ⌝ }
     ensures { λ r. ⌜ r ≡ signed24 u ⌝ }
 {
-    if u < 0x80_0000 {
-        return u as i32;
-    }
-    (u as i32) - 0x100_0000
+    ((u + 0x80_0000) % 0x100_0000) as i32 - 0x80_0000
 }
 
-// The sample of three bytes, in the order in which they stand.
-pub(crate) fn sample_of(a: u8, b: u8, c: u8, endianness: Endianness) -> i32
-    ensures { λ r. ⌜ r ≡ signed24 (number24 endianness a b c) ⌝ }
+// The sample of the first three of four bytes, in the order in which they stand. Four bytes are one load for a compiler.
+pub(crate) fn sample_of(word: [u8; 4], endianness: Endianness) -> i32
+    ensures { λ r. ⌜ r ≡ signed24 (number24 endianness (getD word 0 0) (getD word 1 0) (getD word 2 0)) ⌝ }
 {
     match endianness {
-        Endianness::BigEndian => signed_of(number_of(a, b, c)),
-        Endianness::LittleEndian => signed_of(number_of(c, b, a)),
+        Endianness::BigEndian => signed_of(be_u32(&word, 0) / 256),
+        Endianness::LittleEndian => {
+            let turned = [word[3], word[2], word[1], word[0]];
+            signed_of(be_u32(&turned, 0) % 0x100_0000)
+        }
     }
 }
