@@ -1,0 +1,111 @@
+/* Every place that caf.h names, by a film whose numbers all differ: in the writer's record, in both readings, in the feeding record and in a
+ * resumed record. */
+#include "caf_names.h"
+#include "holds.h"
+
+/* 44100 Hz, five channels of 20 bits, floating point and little-endian: three bytes a sample, 15 a packet */
+#define RATE 44100.0
+enum { CHANNELS = 5, BITS = 20, PACKET = 15, FLAGS = 3, LPCM = 0x6C70636D };
+/* five described channels, and 31 bytes of audio: two frames and a byte */
+enum { START = 92 + 20 * CHANNELS, SIZE = START - 12, PAYLOAD = 31, LENGTH = START + PAYLOAD, FRAMES = 2, CHUNKS = 3 };
+
+static const uint32_t labels[CHANNELS] = {CAF_LABEL_MONO, CAF_LABEL_LEFT_WIDE, CAF_LABEL_XYX, CAF_LABEL_UNKNOWN, CAF_LABEL_NARRATION};
+static uint64_t record[CAF_RECORD], out[CAF_STRICT_PLACES];
+static uint8_t film[LENGTH];
+
+/* The seven numbers of the format stand together, in one order, wherever they stand. */
+#define TOGETHER(places)                                                                                                     \
+    _Static_assert(places##_FORMAT_ID == places##_RATE + 1 && places##_FLAGS == places##_RATE + 2 &&                         \
+                       places##_BYTES_PER_PACKET == places##_RATE + 3 && places##_FRAMES_PER_PACKET == places##_RATE + 4 &&  \
+                       places##_CHANNELS == places##_RATE + 5 && places##_BITS == places##_RATE + 6,                         \
+                   "the numbers of a format are not together")
+TOGETHER(CAF_PLAIN);
+TOGETHER(CAF_STRICT);
+TOGETHER(CAF_RECORD);
+
+static void format_at(const uint64_t *place) {
+    const double rate = RATE;
+    uint64_t rate_bits;
+
+    memcpy(&rate_bits, &rate, sizeof rate_bits);
+    HOLDS(place[0] == rate_bits && place[1] == LPCM && place[2] == FLAGS && place[3] == PACKET);
+    HOLDS(place[4] == 1 && place[5] == CHANNELS && place[6] == BITS);
+}
+
+static void header_places(uint64_t data_count) {
+    HOLDS(record[CAF_RECORD_HAS_FORMAT] == 1 && record[CAF_RECORD_ENDIANNESS] == 1 && record[CAF_RECORD_HAS_HEADER] == 1);
+    format_at(record + CAF_RECORD_RATE);
+    HOLDS(record[CAF_RECORD_SIZE_POSITION] == SIZE && record[CAF_RECORD_DATA_START] == START);
+    HOLDS(record[CAF_RECORD_DATA_COUNT] == data_count && record[CAF_RECORD_FILE_LEN] == LENGTH);
+}
+
+static void written(void) {
+    static const uint8_t bytes[PAYLOAD];
+    int i;
+
+    HOLDS(caf_new(record, CAF_RECORD) == CAF_DONE && record[CAF_RECORD_LAYOUT_KIND] == 0);
+    HOLDS(caf_set_layout_tag(record, CAF_RECORD, CAF_TAG_CUBE) == CAF_DONE);
+    HOLDS(record[CAF_RECORD_LAYOUT_KIND] == 1 && record[CAF_RECORD_LAYOUT_TAG] == CAF_TAG_CUBE);
+    HOLDS(caf_set_format(record, CAF_RECORD, RATE, CHANNELS, BITS, true, true) == CAF_DONE);
+    HOLDS(caf_set_layout_for_labels(record, CAF_RECORD, labels, CHANNELS, CHANNELS) == CAF_DONE);
+    HOLDS(record[CAF_RECORD_LAYOUT_KIND] == 2 && record[CAF_RECORD_LABEL_COUNT] == CHANNELS);
+    for (i = 0; i < CHANNELS; i++)
+        HOLDS(record[CAF_RECORD_LABELS + i] == labels[i]);
+    HOLDS(record[CAF_RECORD_HAS_HEADER] == 0 && caf_write_header(record, CAF_RECORD, film, LENGTH) == CAF_DONE);
+    HOLDS(caf_write_data(record, CAF_RECORD, film, LENGTH, bytes, PAYLOAD) == CAF_DONE && record[CAF_RECORD_FINISHED] == 0);
+    HOLDS(caf_finish(record, CAF_RECORD, film, LENGTH) == CAF_DONE && record[CAF_RECORD_FINISHED] == 1);
+    header_places(PAYLOAD);
+    HOLDS(caf_stats(record, CAF_RECORD, out, CAF_STATS_PLACES) == CAF_DONE);
+    HOLDS(out[CAF_STATS_DATA_COUNT] == PAYLOAD && out[CAF_STATS_FINISHED] == 1);
+}
+
+static void read_plainly(void) {
+    HOLDS(caf_parse(film, LENGTH, out, CAF_PLAIN_PLACES) == CAF_DONE);
+    HOLDS(out[CAF_PLAIN_CHUNKS] == CHUNKS && out[CAF_PLAIN_HAS_FORMAT] == 1 && out[CAF_PLAIN_ENDIANNESS] == 1);
+    format_at(out + CAF_PLAIN_RATE);
+    HOLDS(out[CAF_PLAIN_SIZE_POSITION] == SIZE && out[CAF_PLAIN_DATA_START] == START);
+}
+
+static void strict_places(void) {
+    HOLDS(out[CAF_STRICT_CHUNKS] == CHUNKS && out[CAF_STRICT_OPEN] == 0);
+    format_at(out + CAF_STRICT_RATE);
+    HOLDS(out[CAF_STRICT_SIZE_POSITION] == SIZE && out[CAF_STRICT_DATA_START] == START);
+    HOLDS(out[CAF_STRICT_PAYLOAD] == PAYLOAD && out[CAF_STRICT_FRAMES] == FRAMES);
+}
+
+/* Up to nine bytes into the header of the data chunk, then into the data, then all. */
+static void fed(void) {
+    enum { HELD = 9, CUT = SIZE - 4 + HELD, LEFT = 20 };
+    uint64_t feeder[CAF_FEEDER];
+
+    HOLDS(caf_feed_begin(feeder, CAF_FEEDER) == CAF_DONE && caf_feed(feeder, CAF_FEEDER, film, CUT) == CAF_DONE);
+    HOLDS(feeder[CAF_FEEDER_COUNT] == HELD && feeder[CAF_FEEDER_TOTAL] == CUT && feeder[CAF_FEEDER_CHUNKS] == CHUNKS - 1);
+    format_at(feeder + CAF_FEEDER_RATE);
+    /* `data` and the first half of its size, which is 0 */
+    HOLDS(feeder[CAF_FEEDER_HELD] == (uint64_t)0x64617461 << 32);
+    HOLDS(caf_feed(feeder, CAF_FEEDER, film + CUT, LENGTH - CUT - LEFT) == CAF_DONE);
+    HOLDS(feeder[CAF_FEEDER_NUMBER] == LEFT && feeder[CAF_FEEDER_SIZE] == PAYLOAD + 4 && feeder[CAF_FEEDER_START] == START);
+    HOLDS(caf_feed(feeder, CAF_FEEDER, film + LENGTH - LEFT, LEFT) == CAF_DONE);
+    HOLDS(caf_feed_end(feeder, CAF_FEEDER, out, CAF_STRICT_PLACES) == CAF_DONE);
+    strict_places();
+    HOLDS(caf_feed(feeder, CAF_FEEDER, film + 8, 44) == CAF_BAD_DESC && feeder[CAF_FEEDER_PHASE] == 7 && feeder[CAF_FEEDER_NUMBER] == CAF_BAD_DESC);
+}
+
+static void resumed(void) {
+    HOLDS(caf_resume(film, LENGTH, LENGTH, record, CAF_RECORD, out, 1) == CAF_DONE && out[0] == CHUNKS);
+    header_places(0);
+    HOLDS(record[CAF_RECORD_LAYOUT_KIND] == 0 && record[CAF_RECORD_LABEL_COUNT] == 0 && record[CAF_RECORD_FINISHED] == 0);
+    HOLDS(caf_resume_counted(film, LENGTH, LENGTH, 5, out, CAF_RESUME_COUNTED_PLACES) == CAF_DONE);
+    HOLDS(out[CAF_RESUME_COUNTED_STORES] == 5 && out[CAF_RESUME_COUNTED_FILE_LEN] == LENGTH && out[CAF_RESUME_COUNTED_CHUNKS] == CHUNKS);
+}
+
+int main(void) {
+    written();
+    read_plainly();
+    HOLDS(caf_read_strict(film, LENGTH, out, CAF_STRICT_PLACES) == CAF_DONE);
+    strict_places();
+    fed();
+    resumed();
+    printf("places: %lu checks hold\n", checks);
+    return 0;
+}
