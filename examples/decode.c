@@ -1,8 +1,7 @@
 /* A decoder that writes a film of 5.1 channels. From the top of the project, after film/build:
  *
  *     cc -std=c11 -Wall -Wextra -Iinclude -Ifilm -o target/decode examples/decode.c target/film/libfilm.a "$(tools/archive)/libcaf.a" -pthread
- *     target/decode film.caf
- */
+ *     target/decode film.caf */
 #include <stdio.h>
 
 #include "caf_names.h"
@@ -10,7 +9,8 @@
 
 enum { CHANNELS = 6, RATE = 48000, FRAMES = 1024 };
 
-/* Stands for a decoder: one second of a rising tone in each channel. Gives the frames it made, 0 at the end. */
+/* Stands for a decoder: one second of a rising tone in each channel. Gives the frames it made, 0 at the
+ * end. */
 static size_t decode(int32_t *samples, size_t *at) {
     size_t i, count = RATE - *at < FRAMES ? RATE - *at : FRAMES;
 
@@ -21,7 +21,8 @@ static size_t decode(int32_t *samples, size_t *at) {
 }
 
 static enum film_error write_film(struct film *film, const char *path) {
-    static const uint32_t labels[CHANNELS] = {CAF_LABEL_LEFT, CAF_LABEL_RIGHT, CAF_LABEL_CENTER, CAF_LABEL_LFE_SCREEN,
+    static const uint32_t labels[CHANNELS] = {CAF_LABEL_LEFT,          CAF_LABEL_RIGHT,
+                                              CAF_LABEL_CENTER,        CAF_LABEL_LFE_SCREEN,
                                               CAF_LABEL_LEFT_SURROUND, CAF_LABEL_RIGHT_SURROUND};
     int32_t samples[FRAMES * CHANNELS];
     size_t at = 0, count;

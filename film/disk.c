@@ -1,4 +1,5 @@
-/* The file of a film: opened, locked, written and read so that nothing is left half done without being noticed. */
+/* The file of a film: opened, locked, written and read so that nothing is left half done without being
+ * noticed. */
 #include "parts.h"
 
 #include <errno.h>
@@ -29,15 +30,21 @@ static int above_the_standard_streams(int fd) {
     return higher;
 }
 
-/* Whoever only reads shares the lock with others that do: a lock of one's own is not given for such a file everywhere. */
+/* What stat or fstat said of a name or a file. */
+static enum film_error regular(int failed, const struct stat *about, struct film_fault *fault) {
+    if (failed)
+        return fault_of(fault, FILM_SYSTEM, errno);
+    return S_ISREG(about->st_mode) ? FILM_DONE : fault_of(fault, FILM_NOT_A_FILE, 0);
+}
+
+/* Whoever only reads shares the lock with others that do: a lock of one's own is not given for such a file
+ * everywhere. */
 static enum film_error lock(int fd, int flags, struct film_fault *fault) {
     int kind = (flags & O_ACCMODE) == O_RDONLY ? LOCK_SH : LOCK_EX;
     struct stat about;
 
-    if (fstat(fd, &about) < 0)
-        return fault_of(fault, FILM_SYSTEM, errno);
-    if (!S_ISREG(about.st_mode))
-        return fault_of(fault, FILM_NOT_A_FILE, 0);
+    if (regular(fstat(fd, &about), &about, fault) != FILM_DONE)
+        return fault->error;
     if (flock(fd, kind | LOCK_NB) == 0)
         return FILM_DONE;
     if (errno == EWOULDBLOCK)
@@ -46,9 +53,14 @@ static enum film_error lock(int fd, int flags, struct film_fault *fault) {
 }
 
 enum film_error film_disk_open(const char *path, int flags, int *fd, struct film_fault *fault) {
-    /* O_NONBLOCK is for the FIFO that nobody writes to: it is opened at once, and found to be no file */
-    int got = above_the_standard_streams(open(path, flags | O_CLOEXEC | O_NONBLOCK | O_NOCTTY, 0666));
+    struct stat about;
+    int got;
 
+    /* what is no file is not even opened: that would let the writer of a FIFO go on, or rewind a tape */
+    if (!(flags & O_CREAT) && regular(stat(path, &about), &about, fault) != FILM_DONE)
+        return fault->error;
+    /* the name may stand for something else by now: O_NONBLOCK, so that no FIFO is waited for */
+    got = above_the_standard_streams(open(path, flags | O_CLOEXEC | O_NONBLOCK | O_NOCTTY, 0666));
     if (got < 0)
         return fault_of(fault, FILM_SYSTEM, errno);
     if (lock(got, flags, fault) != FILM_DONE) {
@@ -77,9 +89,9 @@ static size_t store_all(int fd, const uint8_t *bytes, size_t n, uint64_t at) {
     return done;
 }
 
-/* Past RLIMIT_FSIZE a write sends SIGXFSZ to its own thread, which ends the process. It is held back around the write, in this
- * thread alone, and taken out of the queue, unless one was waiting there before: so the write gives EFBIG, and the handlers of
- * the process, which are the caller's, are left alone. */
+/* Past RLIMIT_FSIZE a write sends SIGXFSZ to its own thread, which ends the process. It is held back around
+ * the write, in this thread alone, and taken out of the queue, unless one was waiting there before: so the
+ * write gives EFBIG, and the handlers of the process, which are the caller's, are left alone. */
 size_t film_disk_store(int fd, const uint8_t *bytes, size_t n, uint64_t at) {
     const struct timespec no_time = {0, 0};
     sigset_t limit, before, waiting;

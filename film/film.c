@@ -1,4 +1,5 @@
-/* A film that is written: each call lets the library store into the window, and carries the stores to the disk. */
+/* A film that is written: each call lets the library store into the window, and carries the stores to the
+ * disk. */
 #include "parts.h"
 
 #include <errno.h>
@@ -44,10 +45,12 @@ enum film_error film_create(struct film *film, const char *path) {
     return film_disk_open(path, O_RDWR | O_CREAT | O_EXCL, &film->fd, &film->fault);
 }
 
-enum film_error film_set_format(struct film *film, double rate, uint32_t channels, uint32_t bits, bool is_float, bool little_endian) {
+enum film_error film_set_format(struct film *film, double rate, uint32_t channels, uint32_t bits,
+                                bool is_float, bool little_endian) {
     if (ready(film) != FILM_DONE)
         return film->fault.error;
-    return answer(film, caf_set_format(film->record, CAF_RECORD, rate, channels, bits, is_float, little_endian));
+    return answer(film,
+                  caf_set_format(film->record, CAF_RECORD, rate, channels, bits, is_float, little_endian));
 }
 
 enum film_error film_set_layout_tag(struct film *film, uint32_t tag) {
@@ -56,7 +59,8 @@ enum film_error film_set_layout_tag(struct film *film, uint32_t tag) {
     return answer(film, caf_set_layout_tag(film->record, CAF_RECORD, tag));
 }
 
-enum film_error film_set_layout_labels(struct film *film, const uint32_t *labels, size_t count, uint32_t channels) {
+enum film_error film_set_layout_labels(struct film *film, const uint32_t *labels, size_t count,
+                                       uint32_t channels) {
     if (ready(film) != FILM_DONE)
         return film->fault.error;
     return answer(film, caf_set_layout_for_labels(film->record, CAF_RECORD, labels, count, channels));
@@ -123,7 +127,8 @@ static uint32_t append_samples(uint64_t *record, uint8_t *base, size_t room, con
 }
 
 /* `count` elements that take `bytes` bytes of the film. */
-static enum film_error append_piece(struct film *film, appending *call, const void *from, size_t count, size_t bytes) {
+static enum film_error append_piece(struct film *film, appending *call, const void *from, size_t count,
+                                    size_t bytes) {
     uint64_t at = film->record[CAF_RECORD_FILE_LEN];
     uint32_t number;
 
@@ -135,9 +140,11 @@ static enum film_error append_piece(struct film *film, appending *call, const vo
     return carry(film, at, bytes);
 }
 
-/* Elements of `size` bytes that take `width` bytes of the film each. What the library may refuse does not depend on the count, as
- * there is always room: a refusal comes with the first piece, when nothing has been stored. */
-static enum film_error append(struct film *film, appending *call, const void *from, size_t count, size_t size, size_t width) {
+/* Elements of `size` bytes that take `width` bytes of the film each. What the library may refuse does not
+ * depend on the count, as there is always room: a refusal comes with the first piece, when nothing has been
+ * stored. */
+static enum film_error append(struct film *film, appending *call, const void *from, size_t count, size_t size,
+                              size_t width) {
     const uint8_t *next = from;
     const size_t most = FILM_PIECE / width;
 
@@ -178,7 +185,8 @@ enum film_error film_finish(struct film *film) {
     if (film->record[CAF_RECORD_FINISHED])
         return FILM_DONE;
     at = film->record[CAF_RECORD_SIZE_POSITION];
-    if (film_unchanged(film) != FILM_DONE || film_sync(film) != FILM_DONE || lend(film, at, FILM_FIELD) != FILM_DONE)
+    if (film_unchanged(film) != FILM_DONE || film_sync(film) != FILM_DONE ||
+        lend(film, at, FILM_FIELD) != FILM_DONE)
         return film->fault.error;
     number = caf_finish(film->record, CAF_RECORD, film->window.base, film->window.room);
     if (number != CAF_DONE)
@@ -208,8 +216,8 @@ uint64_t film_arrived(const struct film *film) {
 const char *film_words(const struct film_fault *fault, char *text, size_t room) {
     switch (fault->error) {
     case FILM_REFUSED:
-        snprintf(text, room, "refused, number %u %s: %s", (unsigned)fault->number, caf_number_name(fault->number),
-                 caf_number_words(fault->number));
+        snprintf(text, room, "refused, number %u %s: %s", (unsigned)fault->number,
+                 caf_number_name(fault->number), caf_number_words(fault->number));
         return text;
     case FILM_SYSTEM:
         snprintf(text, room, "%s", strerror(fault->system));

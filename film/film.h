@@ -7,27 +7,30 @@
  *         fprintf(stderr, "film.caf: %s\n", film_words(&film.fault, words, sizeof words));
  *     film_close(&film);
  *
- * Compile film.c, reopen.c, recovery.c, strict.c, disk.c and window.c (or link the libfilm.a that film/build makes of them),
- * and link with libcaf.a. For 64-bit Linux.
+ * Compile film.c, reopen.c, recovery.c, strict.c, disk.c and window.c (or link the libfilm.a that film/build
+ * makes of them), and link with libcaf.a. For 64-bit Linux.
  *
- * What is promised. The proved library makes every byte and judges every call; this layer carries its stores to the disk, in
- * their order and nothing else. The file is at every moment exactly as long as the stores made: data are appended, never
- * overwritten, and no room is made in advance. So whatever ends the process, at any moment and in any session, film_open or
- * film_recover finds every byte whose append had returned, and of an append that was under way the first so many bytes. Memory
- * stays flat, some 2 MiB, however long the film.
+ * What is promised. The proved library makes every byte and judges every call; this layer carries its stores
+ * to the disk, in their order and nothing else. The file is at every moment exactly as long as the stores
+ * made: data are appended, never overwritten, and no room is made in advance. So whatever ends the process,
+ * at any moment and in any session, film_open or film_recover finds every byte whose append had returned, and
+ * of an append that was under way the first so many bytes. Memory stays flat, some 2 MiB, however long the
+ * film.
  *
- * What is assumed. That the process dies: nothing; what a write gave to the system stays. That the machine dies: that a file
- * does not become longer before the bytes that make it longer are on the disk, and that the eight bytes of a size field, one
- * write, arrive whole or from the most significant byte on (that is what is proved; should they arrive in another order, each is
- * still an old or a new one, and the field then says no size, or too large a one, and never a wrong bill). The disk is made to
- * sync between the header and the data, between -1 put back into a reopened film and what is appended, between the data and the
- * size of a finish, and after it; film_sync makes appended data outlive the machine. That the name of a new film does too is for
- * the caller to see to, by an fsync of its folder.
+ * What is assumed. If the process dies, nothing: what a write gave to the system stays. If the machine dies:
+ * that a file does not become longer before the bytes that make it longer are on the disk, and that the eight
+ * bytes of a size field, which are one write, arrive whole or from the most significant byte on. That is what
+ * is proved; should they arrive in another order, each is still one of -1 or of the true size, so that the
+ * field reads as negative or as too large, which bills nothing until it was recovered. The disk is made to
+ * sync between the header and the data, between -1 put back into a reopened film and what is appended,
+ * between the data and the size of a finish, and after it; film_sync makes appended data outlive the machine.
+ * That the name of a new film does too is for the caller to see to, by an fsync of its folder.
  *
- * A film open for writing is locked (flock). That binds film_open and film_recover, not other programs: a file that someone else
- * made longer or shorter meanwhile is not finished (FILM_CHANGED).
+ * A film open for writing is locked (flock). That binds film_open and film_recover, not other programs: a
+ * file that someone else made longer or shorter meanwhile is not finished (FILM_CHANGED).
  *
- * A call must not be made on a film while another thread makes one on it. Different films are independent of each other. */
+ * A call must not be made on a film while another thread makes one on it. Different films are independent of
+ * each other. A caller must have 8 KiB of stack left, for film_recover 32. */
 #ifndef FILM_H
 #define FILM_H
 
@@ -41,8 +44,9 @@
 extern "C" {
 #endif
 
-/* What every call gives back. After FILM_REFUSED nothing has changed and the film may be gone on with. After any other failure
- * nothing more is written: the calls give FILM_STOPPED until film_close. What arrived stays, and can be reopened or recovered. */
+/* What every call gives back. After FILM_REFUSED nothing has changed and the film may be gone on with. After
+ * any other failure nothing more is written: the calls give FILM_STOPPED until film_close. What arrived
+ * stays, and can be reopened or recovered. */
 enum film_error {
     FILM_DONE = 0,
     FILM_REFUSED = 1,    /* the library refused the call: `number` says why */
@@ -66,13 +70,15 @@ enum { FILM_WORDS = 200 };
 /* Puts a fault into words, for instance "refused, number 14 NoRoom: ..."; gives back `text`. */
 const char *film_words(const struct film_fault *fault, char *text, size_t room);
 
-/* Address space in which byte i of a film stands at base[i]. Only the pages between `from` and `to` can be used. */
+/* Address space in which byte i of a film stands at base[i]. Only the pages between `from` and `to` can be
+ * used. */
 struct film_window {
     uint8_t *base;
     uint64_t room, from, to;
 };
 
-/* A film that is being written. A caller may read `fault`; all else is the layer's own. All zero it is one that is not open. */
+/* A film that is being written. A caller may read `fault`; all else is the layer's own. All zero it is one
+ * that is not open. */
 struct film {
     struct film_fault fault;
     int fd; /* never 0 to 2, the standard streams; 0 where the film is not open */
@@ -84,35 +90,40 @@ struct film {
 
 /* ---- writing a film
  *
- * film_create and film_open begin a film and set all of *film, also where they fail; film_close is due after either, and does no
- * harm twice. */
+ * film_create and film_open begin a film and set all of *film, also where they fail; film_close is due after
+ * either, and does no harm twice. */
 
 /* A new film. The name must not exist: FILM_SYSTEM with EEXIST; no film is ever overwritten. */
 enum film_error film_create(struct film *film, const char *path);
 
-/* Resumes a film, to append to it: open, finished, or left by a writer that died. It reads as open from then on, until it is
- * finished. What cannot be resumed is FILM_REFUSED, with caf_resume's number, and not changed: a file shorter than its header,
- * in which no data had arrived (remove it and begin anew), or one with other chunks after its data (CAF_TAIL_AFTER_DATA). */
+/* Resumes a film, to append to it: open, finished, or left by a writer that died. It reads as open from then
+ * on, until it is finished. What cannot be resumed is FILM_REFUSED, with caf_resume's number, and not
+ * changed: a file shorter than its header, in which no data had arrived (remove it and begin anew), or one
+ * with other chunks after its data (CAF_TAIL_AFTER_DATA). */
 enum film_error film_open(struct film *film, const char *path);
 
-/* Settings, as caf_set_format, caf_set_layout_tag and caf_set_layout_for_labels have them: before the header. */
-enum film_error film_set_format(struct film *film, double rate, uint32_t channels, uint32_t bits, bool is_float, bool little_endian);
+/* Settings, as caf_set_format, caf_set_layout_tag and caf_set_layout_for_labels have them: before the
+ * header. */
+enum film_error film_set_format(struct film *film, double rate, uint32_t channels, uint32_t bits,
+                                bool is_float, bool little_endian);
 enum film_error film_set_layout_tag(struct film *film, uint32_t tag);
-enum film_error film_set_layout_labels(struct film *film, const uint32_t *labels, size_t count, uint32_t channels);
+enum film_error film_set_layout_labels(struct film *film, const uint32_t *labels, size_t count,
+                                       uint32_t channels);
 
 /* Writes the header. Who does not call it has it written by the first append, or by film_finish. */
 enum film_error film_write_header(struct film *film);
 
-/* Appends bytes as they are, or samples packed to three bytes each. Where a write fails part of them may have arrived:
- * film_arrived says how far it went. Past RLIMIT_FSIZE the error is EFBIG, and no SIGXFSZ is seen. */
+/* Appends bytes as they are, or samples packed to three bytes each. Where a write fails part of them may have
+ * arrived: film_arrived says how far it went. Past RLIMIT_FSIZE the error is EFBIG, and no SIGXFSZ is
+ * seen. */
 enum film_error film_append(struct film *film, const void *bytes, size_t count);
 enum film_error film_append_samples(struct film *film, const int32_t *samples, size_t count);
 
 /* Returns when all that was appended is on the disk. */
 enum film_error film_sync(struct film *film);
 
-/* Closes the film's data: puts their size into the header. When it returns all of the film is on the disk. A finished film takes
- * no more data (CAF_FINISHED) unless it is opened again; a second finish does nothing. */
+/* Closes the film's data: puts their size into the header. When it returns all of the film is on the disk. A
+ * finished film takes no more data (CAF_FINISHED) unless it is opened again; a second finish does nothing. */
 enum film_error film_finish(struct film *film);
 
 /* Lets go of the file. It does not finish the film: one that was not finished reads as open. */
@@ -123,35 +134,37 @@ uint64_t film_arrived(const struct film *film);
 
 /* ---- recovery */
 
-/* What a film was. By the size field alone, for that is all that a cut leaves; where two causes leave the same bytes both are
- * named. */
+/* What a film was. By the size field alone, for that is all that a cut leaves; where two causes leave the
+ * same bytes both are named. */
 enum film_state {
-    FILM_UNKNOWN = 0,         /* no reading: the fault says why */
-    FILM_CLOSED = 1,          /* finished; nothing to do */
-    FILM_OPEN = 2,            /* its size is -1: never finished, or reopened */
-    FILM_CUT_IN_FINISH = 3,   /* first bytes of its true size, then those of -1; or finished, with this size, and shortened since */
-    FILM_CUT_IN_REOPEN = 4,   /* first bytes of -1, then those of a finish or of a cut finish */
-    FILM_SHORTENED = 5,       /* a size beyond its end that no cut leaves: it was longer once */
-    FILM_NEGATIVE = 6         /* a negative size that no cut leaves */
+    FILM_UNKNOWN = 0,       /* no reading: the fault says why */
+    FILM_CLOSED = 1,        /* finished; nothing to do */
+    FILM_OPEN = 2,          /* its size is -1: never finished, or reopened */
+    FILM_CUT_IN_FINISH = 3, /* bytes of its true size, then of -1; or finished at this size and shortened */
+    FILM_CUT_IN_REOPEN = 4, /* bytes of -1, then of its true size, which a cut finish may end with -1 */
+    FILM_SHORTENED = 5,     /* a size beyond its end that no cut leaves: it was longer once */
+    FILM_NEGATIVE = 6       /* a negative size that no cut leaves */
 };
 
 /* What a recovery found, and made or would make. */
 struct film_report {
     struct film_fault fault;
     enum film_state state;
-    uint32_t number;            /* of the strict reading before; payload and frames before are 0 where it refused the film */
-    uint64_t size_field;        /* before; 0 where it was closed */
-    uint64_t payload, frames;   /* before */
+    uint32_t number;          /* of the strict reading before; where it is not CAF_DONE the next two are 0 */
+    uint64_t payload, frames; /* before */
+    uint64_t size_field;      /* before; 0 where it was closed */
     uint64_t payload_now, frames_now;
-    uint64_t tail;              /* bytes of other chunks after the data of a closed film */
+    uint64_t tail; /* bytes of other chunks after the data of a closed film */
 };
 
-/* Closes a film in place, by resume and finish: its payload is then all that arrived. One that is closed is not written to. It
- * changes nothing, and gives FILM_REFUSED, where resume refuses the film, with its number, and where the strict reading would
- * refuse it afterwards, with that one. With dry_run it says the same and writes nothing.
+/* Closes a film in place, by resume and finish: its payload is then all that arrived. One that is closed is
+ * not written to. It changes nothing, and gives FILM_REFUSED, where resume refuses the film, with its number,
+ * and where the strict reading would refuse it afterwards, with that one. With dry_run it says the same and
+ * writes nothing.
  *
- * A closed film may have chunks after its data; but one without payload that goes on is refused with CAF_TAIL_AFTER_DATA, since
- * a killed writer of another house leaves just that and what follows may be its audio. */
+ * A closed film may have chunks after its data; but one without payload that goes on is refused with
+ * CAF_TAIL_AFTER_DATA, since a killed writer of another house leaves just that and what follows may be its
+ * audio. */
 enum film_error film_recover(const char *path, bool dry_run, struct film_report *report);
 
 #ifdef __cplusplus

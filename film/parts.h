@@ -17,10 +17,11 @@ enum { FILM_FIELD = 8 };
 
 /* ---- window.c: address space for a film. All but film_window_close give 0, or -1 and an errno. */
 
-/* Address space for a film of so many bytes. What was lent before is given back if it has to be found elsewhere. */
+/* Address space for a film of so many bytes. What was lent before is given back if it has to be found
+ * elsewhere. */
 int film_window_reach(struct film_window *window, uint64_t end);
-/* The only pages that can be used are those of n bytes from `at`, and some after them. Where these were lent already they keep
- * their contents; else they are zero. */
+/* The only pages that can be used are those of n bytes from `at`, and some after them. Where these were lent
+ * already they keep their contents; else they are zero. */
 int film_window_lend(struct film_window *window, uint64_t at, size_t n);
 /* The pages of n bytes from `at`, beside those that were lent. */
 int film_window_add(struct film_window *window, uint64_t at, uint64_t n);
@@ -34,8 +35,8 @@ uint64_t film_page_after(uint64_t at);
 
 /* Opens a regular file and locks it; *fd is above 2. Never waits. */
 enum film_error film_disk_open(const char *path, int flags, int *fd, struct film_fault *fault);
-/* How many of the n bytes were written at `at`, or read from there: fewer where that fails, with its errno, and where a read
- * comes to the end of the file, with errno 0. */
+/* How many of the n bytes were written at `at`, or read from there: fewer where that fails, with its errno,
+ * and where a read comes to the end of the file, with errno 0. */
 size_t film_disk_store(int fd, const uint8_t *bytes, size_t n, uint64_t at);
 size_t film_disk_load(int fd, uint8_t *bytes, size_t n, uint64_t at);
 /* 0, or -1 and an errno. */
@@ -52,14 +53,14 @@ enum film_error film_stop(struct film *film, enum film_error error, int system);
 /* All n bytes are written to the file at `at`, or read from there; else the film is stopped. */
 enum film_error film_store(struct film *film, uint64_t at, const uint8_t *bytes, size_t n);
 enum film_error film_load(struct film *film, uint64_t at, uint8_t *bytes, size_t n);
-/* Whether the file is as long as what was written. Only then is the size true that a finish puts into it; else the film is
- * stopped. */
+/* Whether the file is as long as what was written. Only then is the size true that a finish puts into it;
+ * else the film is stopped. */
 enum film_error film_unchanged(struct film *film);
 
 /* ---- reopen.c */
 
-/* Resumes the film whose file is open, in memory: makes its record, and leaves the stores of the resume in the window, whose pages
- * hold the bytes of the file that it looked at. Writes nothing to the disk. */
+/* Resumes the film whose file is open, in memory: makes its record, and leaves the stores of the resume in
+ * the window, whose pages hold the bytes of the file that it looked at. Writes nothing to the disk. */
 enum film_error film_examine(struct film *film);
 
 /* ---- strict.c */
@@ -71,6 +72,7 @@ struct film_overlay {
 };
 
 /* caf_read_strict of the film's file, with `instead` where that is not NULL. *number is its answer. */
-enum film_error film_strict(struct film *film, const struct film_overlay *instead, uint32_t *number, uint64_t out[CAF_STRICT_PLACES]);
+enum film_error film_strict(struct film *film, const struct film_overlay *instead, uint32_t *number,
+                            uint64_t out[CAF_STRICT_PLACES]);
 
 #endif

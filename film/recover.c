@@ -2,14 +2,16 @@
  *
  *   recover [--dry-run] [--] FILE..
  *
- * A line for each file: what it was, with its payload and frames, and what it is now. A closed file is not written to. A refused
- * one is not changed, and its line says why. With --dry-run nothing is changed, and the lines say what would be. A file that
- * can't be read or written is reported on standard error, and the others are still done.
+ * A line for each file: what it was, with its payload and frames, and what it is now. A closed file is not
+ * written to. A refused one is not changed, and its line says why. With --dry-run nothing is changed, and the
+ * lines say what would be. A file that can't be read or written is reported on standard error, and the others
+ * are still done.
  *
- * A name with control characters, quotation marks or backslashes is printed in quotation marks, with \n, \t, \", \\ and \xHH.
+ * A name with control characters, quotation marks or backslashes is printed in quotation marks, with \n, \t,
+ * \", \\ and \xHH.
  *
- * Exit status: 0 all are closed now, or would be; 1 some were refused, or could not be read or written; 2 no file was named, or
- * the lines could not be written. */
+ * Exit status: 0 all are closed now, or would be; 1 some were refused, or could not be read or written; 2 no
+ * file was named, or the lines could not be written. */
 #include <inttypes.h>
 #include <stdio.h>
 #include <string.h>
@@ -57,7 +59,8 @@ static void print_was(const struct film_report *report) {
         fputs("open", stdout);
         break;
     case FILM_CUT_IN_FINISH:
-        printf("cut in its finish (or closed with payload %" PRIu64 " and shortened since)", report->size_field - 4);
+        printf("cut in its finish (or closed with payload %" PRIu64 " and shortened since)",
+               report->size_field - 4);
         break;
     case FILM_CUT_IN_REOPEN:
         fputs("cut in its reopening", stdout);
@@ -81,8 +84,8 @@ static void print_now(const struct film_report *report, bool dry_run) {
             printf(", with %" PRIu64 " bytes of other chunks after its data", report->tail);
         return;
     }
-    printf("; %s closed, payload %" PRIu64 " frames %" PRIu64, dry_run ? "would be" : "now", report->payload_now,
-           report->frames_now);
+    printf("; %s closed, payload %" PRIu64 " frames %" PRIu64, dry_run ? "would be" : "now",
+           report->payload_now, report->frames_now);
 }
 
 /* 0 the film is closed now, or would be; 1 it is not. */

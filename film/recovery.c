@@ -27,9 +27,9 @@ static int run_end(const uint8_t *field, int from, const uint8_t *like) {
     return from;
 }
 
-/* What a size field says of its film, whose true size is in `size`. Stores go from the most significant byte, a finish's over -1
- * and a reopening's over the true size or over what a cut finish left of it. So a cut finish leaves bytes of the size and then
- * FF, and a cut reopening FF, bytes of the size, FF. */
+/* What a size field says of its film, whose true size is in `size`. Stores go from the most significant byte,
+ * a finish's over -1 and a reopening's over the true size or over what a cut finish left of it. So a cut
+ * finish leaves bytes of the size and then FF, and a cut reopening FF, bytes of the size, FF. */
 static enum film_state state_of(const uint8_t *field, const uint8_t *size) {
     int opened = run_end(field, 0, NULL);
 
@@ -42,7 +42,8 @@ static enum film_state state_of(const uint8_t *field, const uint8_t *size) {
     return field[0] & 0x80 ? FILM_NEGATIVE : FILM_SHORTENED;
 }
 
-/* Opens the film to be closed. One that may only be read can still be looked at: *denied is then why it can't be written to. */
+/* Opens the film to be closed. One that may only be read can still be looked at: *denied is then why it can't
+ * be written to. */
 static enum film_error open_to_recover(struct film *film, const char *path, bool dry_run, int *denied) {
     *denied = 0;
     film_begin(film);
@@ -105,18 +106,21 @@ static enum film_error plan(struct film *film, struct film_report *report, struc
 static enum film_error carry_out(struct film *film, const struct fields *fields) {
     const struct film_overlay *closed = &fields->closed;
 
-    if (film_store(film, closed->at, fields->opened, FILM_FIELD) != FILM_DONE || film_sync(film) != FILM_DONE ||
-        film_unchanged(film) != FILM_DONE || film_store(film, closed->at, closed->bytes, FILM_FIELD) != FILM_DONE)
+    if (film_store(film, closed->at, fields->opened, FILM_FIELD) != FILM_DONE ||
+        film_sync(film) != FILM_DONE || film_unchanged(film) != FILM_DONE ||
+        film_store(film, closed->at, closed->bytes, FILM_FIELD) != FILM_DONE)
         return film->fault.error;
     return film_sync(film);
 }
 
-static enum film_error recover(struct film *film, const char *path, bool dry_run, struct film_report *report) {
+static enum film_error recover(struct film *film, const char *path, bool dry_run,
+                               struct film_report *report) {
     struct fields fields;
     bool closed = false;
     int denied;
 
-    if (open_to_recover(film, path, dry_run, &denied) != FILM_DONE || read_before(film, report, &closed) != FILM_DONE)
+    if (open_to_recover(film, path, dry_run, &denied) != FILM_DONE ||
+        read_before(film, report, &closed) != FILM_DONE)
         return film->fault.error;
     if (closed) {
         report->state = FILM_CLOSED;

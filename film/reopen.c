@@ -1,7 +1,8 @@
 /* A film that is opened again.
  *
- * The file is not mapped: one that someone shortens would end the process by SIGBUS. The pages that the library's resume looks at
- * are read into the window, it stores its eight bytes there, and only these go to the disk. */
+ * The file is not mapped: one that someone shortens would end the process by SIGBUS. The pages that the
+ * library's resume looks at are read into the window, it stores its eight bytes there, and only these go to
+ * the disk. */
 #include "parts.h"
 
 #include <errno.h>
@@ -14,7 +15,8 @@ static uint64_t least(uint64_t a, uint64_t b) {
     return a < b ? a : b;
 }
 
-/* Reads the pages of n bytes from `at`, as far as the file goes and but for those before `have`, up to which all was read. */
+/* Reads the pages of n bytes from `at`, as far as the file goes and but for those before `have`, up to which
+ * all was read. */
 static enum film_error bring(struct film *film, uint64_t at, uint64_t n, uint64_t *have) {
     uint64_t from = film_page_before(at), to = least(film_page_after(at + n), film->length);
 
@@ -28,7 +30,8 @@ static enum film_error bring(struct film *film, uint64_t at, uint64_t n, uint64_
     return film_load(film, from, film->window.base + from, to - from);
 }
 
-/* How far it is from a chunk's header to the next, for the plain reading: a description takes 32 bytes whatever it says. */
+/* How far it is from a chunk's header to the next, for the plain reading: a description takes 32 bytes
+ * whatever it says. */
 static uint64_t body_size(const uint8_t *header) {
     uint64_t size = 0;
     int i;
@@ -40,9 +43,10 @@ static uint64_t body_size(const uint8_t *header) {
     return size;
 }
 
-/* Reads what the library's plain reading looks at: the chunk headers up to the data, and a description after any of them. Sizes
- * are followed here only to know which pages these are; what a file means is the library's to say. Should it look elsewhere it
- * would meet a page that was not lent, and no byte that is not the file's. */
+/* Reads what the library's plain reading looks at: the chunk headers up to the data, and a description after
+ * any of them. Sizes are followed here only to know which pages these are; what a file means is the library's
+ * to say. Should it look elsewhere it would meet a page that was not lent, and no byte that is not the
+ * file's. */
 static enum film_error bring_headers(struct film *film) {
     uint64_t at = FILE_HEADER, have = 0, size;
 
@@ -69,7 +73,8 @@ enum film_error film_examine(struct film *film) {
         return film_stop(film, FILM_SYSTEM, errno);
     if (bring_headers(film) != FILM_DONE)
         return film->fault.error;
-    number = caf_resume(film->window.base, film->window.room, film->length, film->record, CAF_RECORD, &chunks, 1);
+    number =
+        caf_resume(film->window.base, film->window.room, film->length, film->record, CAF_RECORD, &chunks, 1);
     return number == CAF_DONE ? FILM_DONE : film_refused(film, number);
 }
 

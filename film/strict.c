@@ -1,7 +1,9 @@
-/* The strict reading of a film's file, fed in blocks: flat memory, and no mapping that a shortened file would make deadly.
+/* The strict reading of a film's file, fed in blocks: flat memory, and no mapping that a shortened file would
+ * make deadly.
  *
- * Bodies and audio are not read: the feeding record says how many bytes of them are to come, and the library is given as many
- * addresses that cannot be looked at. It passes over them; should it look, the process would end and no answer be given. */
+ * Bodies and audio are not read: the feeding record says how many bytes of them are to come, and the library
+ * is given as many addresses that cannot be looked at. It passes over them; should it look, the process would
+ * end and no answer be given. */
 #include "parts.h"
 
 #include <errno.h>
@@ -39,8 +41,8 @@ static void lay_over(uint8_t *block, size_t n, uint64_t at, const struct film_ov
 }
 
 /* Reads and feeds the block at `at`; *number is the feeding's. */
-static enum film_error feed_block(struct film *film, const struct film_overlay *instead, uint64_t *feeder, uint64_t at, size_t n,
-                      uint32_t *number) {
+static enum film_error feed_block(struct film *film, const struct film_overlay *instead, uint64_t *feeder,
+                                  uint64_t at, size_t n, uint32_t *number) {
     uint8_t block[BLOCK];
 
     if (film_load(film, at, block, n) != FILM_DONE)
@@ -51,8 +53,10 @@ static enum film_error feed_block(struct film *film, const struct film_overlay *
     return FILM_DONE;
 }
 
-/* Feeds the whole film, or as much of it as it takes to refuse it. `unlent` is address space as long as the film. */
-static enum film_error feed_film(struct film *film, const struct film_overlay *instead, uint64_t *feeder, const uint8_t *unlent) {
+/* Feeds the whole film, or as much of it as it takes to refuse it. `unlent` is address space as long as the
+ * film. */
+static enum film_error feed_film(struct film *film, const struct film_overlay *instead, uint64_t *feeder,
+                                 const uint8_t *unlent) {
     uint32_t number = caf_feed_begin(feeder, CAF_FEEDER);
     uint64_t at, n;
 
@@ -69,7 +73,8 @@ static enum film_error feed_film(struct film *film, const struct film_overlay *i
     return FILM_DONE;
 }
 
-enum film_error film_strict(struct film *film, const struct film_overlay *instead, uint32_t *number, uint64_t out[CAF_STRICT_PLACES]) {
+enum film_error film_strict(struct film *film, const struct film_overlay *instead, uint32_t *number,
+                            uint64_t out[CAF_STRICT_PLACES]) {
     struct film_window unlent = {NULL, 0, 0, 0};
     uint64_t feeder[CAF_FEEDER];
     enum film_error error;

@@ -1,9 +1,9 @@
 /* A buffer as long as the film, of which only a window is memory.
  *
- * The library's calls take the buffer that a film is written to, and store at the film's own positions. So the layer sets aside
- * address space for the whole film, which costs nothing, and makes pages of it usable only where a call is going to store or to
- * look. The record's proved numbers are then the only bookkeeping. A page that was not lent cannot be touched: a mistake ends the
- * process and does not write a wrong byte. */
+ * The library's calls take the buffer that a film is written to, and store at the film's own positions. So
+ * the layer sets aside address space for the whole film, which costs nothing, and makes pages of it usable
+ * only where a call is going to store or to look. The record's proved numbers are then the only bookkeeping.
+ * A page that was not lent cannot be touched: a mistake ends the process and does not write a wrong byte. */
 #include "parts.h"
 
 #include <sys/mman.h>
@@ -79,7 +79,8 @@ int film_window_lend(struct film_window *window, uint64_t at, size_t n) {
 
     if (window->from <= at && at + n <= window->to)
         return 0;
-    if (film_window_reach(window, to) < 0 || film_window_clear(window) < 0 || film_window_add(window, from, to - from) < 0)
+    if (film_window_reach(window, to) < 0 || film_window_clear(window) < 0 ||
+        film_window_add(window, from, to - from) < 0)
         return -1;
     window->from = from;
     window->to = to;

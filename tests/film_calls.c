@@ -7,7 +7,8 @@
 #include "holds.h"
 
 static int refused(const struct film *film, enum film_error error, uint32_t number) {
-    return error == FILM_REFUSED && film->fault.error == FILM_REFUSED && film->fault.number == number && film->fault.system == 0;
+    return error == FILM_REFUSED && film->fault.error == FILM_REFUSED && film->fault.number == number &&
+           film->fault.system == 0;
 }
 
 static long length_of(const char *path) {
@@ -82,7 +83,8 @@ static void empty(void) {
     not_open(&other);
     HOLDS(film_recover("empty", false, &report) == FILM_BUSY && report.state == FILM_UNKNOWN);
     HOLDS(film_close(&film) == FILM_DONE);
-    HOLDS(film_recover("empty", false, &report) == FILM_DONE && report.state == FILM_CLOSED && report.payload_now == 0);
+    HOLDS(film_recover("empty", false, &report) == FILM_DONE && report.state == FILM_CLOSED &&
+          report.payload_now == 0);
     HOLDS(film_create(&film, "empty") == FILM_SYSTEM && film.fault.system == EEXIST);
     not_open(&film);
 }

@@ -2,17 +2,18 @@
  *
  *   film_writer create|open FILM AUDIO LENGTH MOST SEED [COUNTERS]
  *
- * Byte i of the film's data is byte i of the file AUDIO, which is repeated; so a later session goes on where the film ends. The
- * session appends pieces of up to MOST bytes, by turns as bytes and as samples, until the film has LENGTH data bytes, and
- * finishes it (LENGTH with a + before it: that many more). In the file COUNTERS, if it is named, stand two numbers for the test:
- * what is being done (enum doing), and how many data bytes the film has by the calls that have returned.
+ * Byte i of the film's data is byte i of the file AUDIO, which is repeated; so a later session goes on where
+ * the film ends. The session appends pieces of up to MOST bytes, by turns as bytes and as samples, until the
+ * film has LENGTH data bytes, and finishes it (LENGTH with a + before it: that many more). In the file
+ * COUNTERS, if it is named, stand two numbers for the test: what is being done (enum doing), and how many
+ * data bytes the film has by the calls that have returned.
  *
- * It prints the data bytes that arrived and the most memory it had, in KiB. Where a call fails it prints the call, the fault in
- * words and the bytes that arrived, and exits with 1.
+ * It prints the data bytes that arrived and the most memory it had, in KiB. Where a call fails it prints the
+ * call, the fault in words and the bytes that arrived, and exits with 1.
  *
- * From the environment: FILM_STOP_AFTER=n kills the process when n bytes were written to files, in the middle of a write if need
- * be. FILM_SHORT=n lets a write take at most n bytes, and interrupts every third one. FILM_SLOW=n makes every sync take n
- * microseconds more before it and after it. */
+ * From the environment: FILM_STOP_AFTER=n kills the process when n bytes were written to files, in the middle
+ * of a write if need be. FILM_SHORT=n lets a write take at most n bytes, and interrupts every third one.
+ * FILM_SLOW=n makes every sync take n microseconds more before it and after it. */
 #define _DEFAULT_SOURCE
 #include <errno.h>
 #include <fcntl.h>
@@ -49,7 +50,8 @@ static uint64_t from_environment(const char *name, uint64_t otherwise) {
     return value == NULL ? otherwise : strtoull(value, NULL, 10);
 }
 
-/* ---- the disk, with the faults that the test asks for: the linker puts these in the place of the system's calls */
+/* ---- the disk, with the faults that the test asks for: the linker puts these in the place of the system's
+ * calls */
 
 ssize_t __real_pwrite(int fd, const void *bytes, size_t n, off_t at);
 ssize_t __wrap_pwrite(int fd, const void *bytes, size_t n, off_t at);
@@ -58,7 +60,8 @@ int __wrap_fdatasync(int fd);
 
 ssize_t __wrap_pwrite(int fd, const void *bytes, size_t n, off_t at) {
     static uint64_t written, calls;
-    uint64_t stop_after = from_environment("FILM_STOP_AFTER", UINT64_MAX), most = from_environment("FILM_SHORT", UINT64_MAX);
+    uint64_t stop_after = from_environment("FILM_STOP_AFTER", UINT64_MAX),
+             most = from_environment("FILM_SHORT", UINT64_MAX);
     ssize_t wrote;
 
     if (most < UINT64_MAX && ++calls % 3 == 0) {
@@ -97,7 +100,8 @@ static _Noreturn void give_up(const char *what) {
 static int failed(const struct session *s, const char *call) {
     char words[FILM_WORDS];
 
-    printf("%s: %s\narrived %" PRIu64 "\n", call, film_words(&s->film.fault, words, sizeof words), film_arrived(&s->film));
+    printf("%s: %s\narrived %" PRIu64 "\n", call, film_words(&s->film.fault, words, sizeof words),
+           film_arrived(&s->film));
     return 1;
 }
 
