@@ -16,39 +16,9 @@
 #include <stdio.h>
 #include <string.h>
 
-#include "film.h"
 #include "caf_names.h"
-
-static int is_plain(const char *name) {
-    for (; *name != '\0'; name++)
-        if ((unsigned char)*name < 0x20 || *name == 0x7F || *name == '"' || *name == '\\')
-            return 0;
-    return 1;
-}
-
-/* The rule of the meter, too: a name can't look like a line of its own. */
-static void print_name(FILE *out, const char *name) {
-    if (is_plain(name)) {
-        fputs(name, out);
-        return;
-    }
-    fputc('"', out);
-    for (; *name != '\0'; name++) {
-        unsigned char byte = (unsigned char)*name;
-
-        if (byte == '\n')
-            fputs("\\n", out);
-        else if (byte == '\t')
-            fputs("\\t", out);
-        else if (byte == '"' || byte == '\\')
-            fprintf(out, "\\%c", byte);
-        else if (byte < 0x20 || byte == 0x7F)
-            fprintf(out, "\\x%02X", byte);
-        else
-            fputc(byte, out);
-    }
-    fputc('"', out);
-}
+#include "film.h"
+#include "names.h"
 
 static void print_was(const struct film_report *report) {
     switch (report->state) {
@@ -88,27 +58,34 @@ static void print_now(const struct film_report *report, bool dry_run) {
            report->payload_now, report->frames_now);
 }
 
+/* The name stands last, as in the meter's lines: whatever it says, the line begins with what was found. */
+static void end_line(const char *name) {
+    fputs(": ", stdout);
+    name_plain(stdout, name);
+    putchar('\n');
+}
+
 /* 0 the film is closed now, or would be; 1 it is not. */
 static int recover(const char *name, bool dry_run) {
     struct film_report report;
     char words[FILM_WORDS];
-    enum film_error error = film_recover(name, dry_run, &report);
-    FILE *out = error == FILM_DONE || error == FILM_REFUSED ? stdout : stderr;
 
-    if (out == stderr)
-        fputs("recover: ", out);
-    print_name(out, name);
-    fputs(": ", out);
-    if (error == FILM_DONE) {
+    switch (film_recover(name, dry_run, &report)) {
+    case FILM_DONE:
         print_was(&report);
         print_now(&report, dry_run);
-    } else {
-        fputs(film_words(&report.fault, words, sizeof words), out);
-        if (error == FILM_REFUSED)
-            fputs("; left as it is", out);
+        end_line(name);
+        return 0;
+    case FILM_REFUSED:
+        printf("%s; left as it is", film_words(&report.fault, words, sizeof words));
+        end_line(name);
+        return 1;
+    default:
+        fputs("recover: ", stderr);
+        name_plain(stderr, name);
+        fprintf(stderr, ": %s\n", film_words(&report.fault, words, sizeof words));
+        return 1;
     }
-    fputc('\n', out);
-    return error != FILM_DONE;
 }
 
 int main(int argc, char **argv) {
