@@ -8,23 +8,24 @@
  *     film_close(&film);
  *
  * Compile film.c, reopen.c, recovery.c, strict.c, disk.c and window.c (or link the libfilm.a that film/build
- * makes of them), and link with libcaf.a. For 64-bit Linux.
+ * makes of them), and link with libcaf.a and -pthread. For 64-bit Linux.
  *
  * What is promised. The proved library makes every byte and judges every call; this layer carries its stores
  * to the disk, in their order and nothing else. The file is at every moment exactly as long as the stores
  * made: data are appended, never overwritten, and no room is made in advance. So whatever ends the process,
  * at any moment and in any session, film_open or film_recover finds every byte whose append had returned, and
  * of an append that was under way the first so many bytes. Memory stays flat, some 2 MiB, however long the
- * film.
+ * film; of address space it takes as much as the film is long, so that a limit on that (ulimit -v) is one on
+ * films.
  *
  * What is assumed. If the process dies, nothing: what a write gave to the system stays. If the machine dies:
  * that a file does not become longer before the bytes that make it longer are on the disk, and that the eight
  * bytes of a size field, which are one write, arrive whole or from the most significant byte on. That is what
  * is proved; should they arrive in another order, each is still one of -1 or of the true size, so that the
- * field reads as negative or as too large, which bills nothing until it was recovered. The disk is made to
- * sync between the header and the data, between -1 put back into a reopened film and what is appended,
- * between the data and the size of a finish, and after it; film_sync makes appended data outlive the machine.
- * That the name of a new film does too is for the caller to see to, by an fsync of its folder.
+ * field reads as negative, or as the true size or more: nothing wrong is billed, and recovery takes it. The
+ * disk is made to sync between the header and the data, between -1 put back into a reopened film and what is
+ * appended, between the data and the size of a finish, and after it; film_sync makes appended data outlive
+ * the machine. That the name of a new film does too is for the caller to see to, by an fsync of its folder.
  *
  * A film open for writing is locked (flock). That binds film_open and film_recover, not other programs: a
  * file that someone else made longer or shorter meanwhile is not finished (FILM_CHANGED).
@@ -44,9 +45,9 @@
 extern "C" {
 #endif
 
-/* What every call gives back. After FILM_REFUSED nothing has changed and the film may be gone on with. After
- * any other failure nothing more is written: the calls give FILM_STOPPED until film_close. What arrived
- * stays, and can be reopened or recovered. */
+/* What every call gives back. After FILM_REFUSED nothing has changed, and the film may be gone on with if it
+ * was open. After any other failure nothing more is written: the calls give FILM_STOPPED until film_close.
+ * What arrived stays, and can be reopened or recovered. */
 enum film_error {
     FILM_DONE = 0,
     FILM_REFUSED = 1,    /* the library refused the call: `number` says why */
@@ -134,12 +135,12 @@ uint64_t film_arrived(const struct film *film);
 
 /* ---- recovery */
 
-/* What a film was. By the size field alone, for that is all that a cut leaves; where two causes leave the
- * same bytes both are named. */
+/* What a film was, by its size field: that is all that a cut leaves. Where two causes leave the same bytes
+ * the state is named after what the bytes are, and both are said here. */
 enum film_state {
     FILM_UNKNOWN = 0,       /* no reading: the fault says why */
-    FILM_CLOSED = 1,        /* finished; nothing to do */
-    FILM_OPEN = 2,          /* its size is -1: never finished, or reopened */
+    FILM_CLOSED = 1,        /* its true size: finished, or cut where that made no difference */
+    FILM_OPEN = 2,          /* -1: never finished, or reopened, or cut where that made no difference */
     FILM_CUT_IN_FINISH = 3, /* bytes of its true size, then of -1; or finished at this size and shortened */
     FILM_CUT_IN_REOPEN = 4, /* bytes of -1, then of its true size, which a cut finish may end with -1 */
     FILM_SHORTENED = 5,     /* a size beyond its end that no cut leaves: it was longer once */

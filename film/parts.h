@@ -15,6 +15,16 @@ enum { FILM_PIECE = 1 << 20 };
 /* The size field of a data chunk. */
 enum { FILM_FIELD = 8 };
 
+/* The number in a size field. */
+static inline uint64_t film_big(const uint8_t *field) {
+    uint64_t number = 0;
+    int i;
+
+    for (i = 0; i < FILM_FIELD; i++)
+        number = number << 8 | field[i];
+    return number;
+}
+
 /* ---- window.c: address space for a film. All but film_window_close give 0, or -1 and an errno. */
 
 /* Address space for a film of so many bytes. What was lent before is given back if it has to be found

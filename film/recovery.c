@@ -11,15 +11,6 @@ struct fields {
     struct film_overlay closed;
 };
 
-static uint64_t big(const uint8_t *bytes) {
-    uint64_t number = 0;
-    int i;
-
-    for (i = 0; i < FILM_FIELD; i++)
-        number = number << 8 | bytes[i];
-    return number;
-}
-
 /* Where the run of bytes that are those of `like`, or FF where that is NULL, ends. */
 static int run_end(const uint8_t *field, int from, const uint8_t *like) {
     while (from < FILM_FIELD && field[from] == (like == NULL ? 0xFF : like[from]))
@@ -95,7 +86,7 @@ static enum film_error plan(struct film *film, struct film_report *report, struc
         return film->fault.error;
     if (number != CAF_DONE)
         return film_refused(film, number);
-    report->size_field = big(fields->before);
+    report->size_field = film_big(fields->before);
     report->state = state_of(fields->before, fields->closed.bytes);
     report->payload_now = out[CAF_STRICT_PAYLOAD];
     report->frames_now = out[CAF_STRICT_FRAMES];

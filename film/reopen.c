@@ -33,14 +33,7 @@ static enum film_error bring(struct film *film, uint64_t at, uint64_t n, uint64_
 /* How far it is from a chunk's header to the next, for the plain reading: a description takes 32 bytes
  * whatever it says. */
 static uint64_t body_size(const uint8_t *header) {
-    uint64_t size = 0;
-    int i;
-
-    if (memcmp(header, "desc", 4) == 0)
-        return DESCRIPTION;
-    for (i = 4; i < CHUNK_HEADER; i++)
-        size = size << 8 | header[i];
-    return size;
+    return memcmp(header, "desc", 4) == 0 ? DESCRIPTION : film_big(header + 4);
 }
 
 /* Reads what the library's plain reading looks at: the chunk headers up to the data, and a description after

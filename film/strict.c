@@ -11,7 +11,8 @@
 
 enum { BLOCK = 1 << 14 };
 
-/* The phases of a feeding record in which bytes are counted and not looked at. */
+/* The phases of a feeding record in which bytes are counted and not looked at, by their numbers in
+ * crates/caf/specs/FeederNumbers.antt. */
 enum { BODY = 4, OPEN_DATA = 6, BODY_AFTER_DATA = 9, CLOSED_DATA = 10 };
 
 /* How many of the `left` bytes to come are not looked at. */
