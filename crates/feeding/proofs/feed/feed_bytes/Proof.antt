@@ -1,5 +1,5 @@
 use Rattle.feeding.proofs.Turns.{bytes-past}
-use Rattle.feeding.proofs.Soundness.{sound-facts}
+use Rattle.feeder.proofs.Facts.{sound-facts}
 use Rattle.feeding.specs.Turns.{pastLimit}
 use lib.ListN.{length-take}
 use native.Mathlib.Omega.{arith}

@@ -3,9 +3,8 @@ use Prim.Native.Nat.{_-_}
 use native.Mathlib.Omega.{arith}
 use lib.ListN.{length}
 use borrow.Author.Needs.{needs}
-use Rattle.feeding.specs.Feed.{took}
 use Rattle.feeding.proofs.InTurns.{Turned, some, asks, one-turn, all-turned}
-use Rattle.feeding.proofs.Soundness.{sound-facts}
+use Rattle.feeder.proofs.Facts.{sound-facts}
 use Rattle.feeding.proofs.feed.in_turns.Statement.{statement}
 use Rattle.feeding.proofs.feed.in_turns.Tie as tie
 

@@ -1,6 +1,5 @@
-use borrow.Author.Tests.{not-true, not-false}
+use borrow.Author.Tests.{not-true, not-false, eq-eqb, ne-eqb}
 use Rattle.feeding.specs.Feed.{judged}
-use borrow.Author.Tests.{eq-eqb, ne-eqb}
 use borrow.Author.Needs.{needs}
 use Rattle.feeding.proofs.judge.judged_first.Statement.{statement}
 use Rattle.feeding.proofs.judge.judged_first.Tie as tie

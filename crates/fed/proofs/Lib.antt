@@ -1,0 +1,11 @@
+pub mod Piece
+pub mod At
+pub mod Follow
+pub mod Whole
+pub mod Cut
+pub mod Limit
+pub mod Theorems
+pub mod ByTurns
+pub mod Few
+pub mod Waits
+pub mod Examples
