@@ -13,17 +13,18 @@ use Rattle.byteorder.specs.Big.{bigAt, bigBytes}
 use Rattle.format.specs.declared.AudioFormat.{AudioFormat}
 use Rattle.reading.specs.Claims.{Bytes}
 use Rattle.reading.proofs.SoundBytes.{back, together}
-use Rattle.feeding.specs.Record.{isByBytes, fresh, sound}
+use Rattle.feeder.specs.Record.{isByBytes, fresh, sound}
+use Rattle.feeder.specs.End.{end}
+use Rattle.feeder.specs.declared.Phase.{Phase}
+use Rattle.feeder.specs.declared.Phase.the-variants.{FileHeader, FirstHeader, Desc, Header, Skipping, Edit, OpenData, ClosedData, Refused}
+use Rattle.feeder.specs.declared.DataChunk.the-variants.{Ahead, Passed}
+use Rattle.feeder.specs.declared.Feeder.{Feeder}
+use Rattle.feeder.proofs.Facts.{Facts, sound-facts, sound-tests, fresh-sound}
 use Rattle.feeding.specs.Feed.{numberAt, feedBytes, feed, feedAll}
-use Rattle.feeding.specs.End.{end}
-use Rattle.feeding.specs.declared.Phase.{Phase}
-use Rattle.feeding.specs.declared.Phase.the-variants.{FileHeader, FirstHeader, Desc, Header, Skipping, Edit, OpenData, ClosedData, Refused}
-use Rattle.feeding.specs.declared.DataChunk.the-variants.{Ahead, Passed}
-use Rattle.feeding.specs.declared.Feeder.{Feeder}
 use Rattle.feeding.specs.declared.Fed.{Fed}
-use Rattle.feeding.proofs.Soundness.{Facts, sound-facts, sound-tests, bytes-sound, fresh-sound}
-use Rattle.feeding.proofs.Cut.{feed-is}
-use Rattle.feeding.proofs.Theorems.{fed-is}
+use Rattle.feeding.proofs.Soundness.{bytes-sound}
+use Rattle.feeding.proofs.Call.{feed-is}
+use Rattle.fed.proofs.Theorems.{fed-is}
 use Rattle.caf.specs.RecordNumbers.{isWord}
 use Rattle.caf.specs.FeederNumbers.{phaseOf, feederNumbers, feederOf, isFeeder}
 use Rattle.caf.specs.FeederCalls.{feedOn, feederAfter, endOn}

@@ -17,14 +17,15 @@ use Rattle.reading.specs.Rules.{isOpenSize, isBadDataSize}
 use Rattle.reading.specs.Claims.{Bytes}
 use Rattle.reading.proofs.Choice.{either}
 use Rattle.reading.proofs.SoundDesc.{desc-typed}
-use Rattle.feeding.specs.Record.{pieceSize}
+use Rattle.feeder.specs.Record.{pieceSize}
+use Rattle.feeder.specs.declared.Phase.{Phase}
+use Rattle.feeder.specs.declared.Phase.the-variants.{FileHeader, FirstHeader, Desc, Header, Skipping, Edit, OpenData, ClosedData, Refused}
+use Rattle.feeder.specs.declared.DataChunk.{DataChunk}
+use Rattle.feeder.specs.declared.DataChunk.the-variants.{Ahead, Passed}
+use Rattle.feeder.specs.declared.Feeder.{Feeder}
+use Rattle.feeder.proofs.Facts.{Sound}
 use Rattle.feeding.specs.Feed.{skipping, passing, judgedData, judgedHeader, judged, collected, fills, took, isRefused, step1, feedBytes}
-use Rattle.feeding.specs.declared.Phase.{Phase}
-use Rattle.feeding.specs.declared.Phase.the-variants.{FileHeader, FirstHeader, Desc, Header, Skipping, Edit, OpenData, ClosedData, Refused}
-use Rattle.feeding.specs.declared.DataChunk.{DataChunk}
-use Rattle.feeding.specs.declared.DataChunk.the-variants.{Ahead, Passed}
-use Rattle.feeding.specs.declared.Feeder.{Feeder}
-use Rattle.feeding.proofs.Soundness.{Sound, step-sound}
+use Rattle.feeding.proofs.Soundness.{step-sound}
 
 -- a format where there is one, and a refusal of 32 bits
 abbrev pub TypedPhase : Phase → Type 0

@@ -12,10 +12,10 @@ use Rattle.byteorder.specs.Big.{bigAt, bigBytes}
 use Rattle.byteorder.specs.Splice.{splice, storeFirst}
 use Rattle.byteorder.proofs.Budget.{whole-done}
 use Rattle.byteorder.proofs.Laws.{length-splice, more}
+use Rattle.feeder.specs.declared.Phase.{Phase}
+use Rattle.feeder.specs.declared.Phase.the-variants.{FileHeader, FirstHeader, Desc, Header, Skipping, Edit, OpenData, ClosedData, Refused}
+use Rattle.feeder.specs.declared.Feeder.{Feeder}
 use Rattle.feeding.specs.Feed.{feed}
-use Rattle.feeding.specs.declared.Phase.{Phase}
-use Rattle.feeding.specs.declared.Phase.the-variants.{FileHeader, FirstHeader, Desc, Header, Skipping, Edit, OpenData, ClosedData, Refused}
-use Rattle.feeding.specs.declared.Feeder.{Feeder}
 use Rattle.feeding.specs.declared.Fed.{Fed}
 use Rattle.reading.proofs.Choice.{both}
 use Rattle.caf.specs.RecordNumbers.{at, isWord, allWords}

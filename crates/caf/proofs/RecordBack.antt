@@ -16,7 +16,7 @@ use Rattle.format.specs.declared.Endianness.the-variants.{BigEndian, LittleEndi
 use Rattle.layout.specs.declared.ChannelLayout.{ChannelLayout}
 use Rattle.layout.specs.declared.ChannelLayout.the-variants.{NoLayout, Tagged, Described}
 use Rattle.writer.specs.declared.CAFWriter.{CAFWriter}
-use Rattle.feeding.proofs.Soundness.{join}
+use Rattle.feeder.proofs.Facts.{join}
 use Rattle.caf.specs.FormatNumbers.{flagNumber, formatNumbers, orderNumber}
 use Rattle.caf.specs.RecordNumbers.{at, maybeOf, labelsIn, orderOf, layoutKind, layoutTag, layoutOf, isFlag, isWord, allWords, formatFits, layoutFits, recordNumbers, recordOf, isRecord}
 use Rattle.caf.specs.RecordClaims.{TypedLayout, TypedWriter, RecordBack}

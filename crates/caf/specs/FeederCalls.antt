@@ -8,9 +8,9 @@ use lib.Dec.{eqb}
 use Rattle.answers.specs.Numbers.{done, badWriter}
 use Rattle.reading.specs.declared.StrictAnswer.{StrictAnswer}
 use Rattle.reading.specs.declared.StrictAnswer.the-variants.{Rejected}
-use Rattle.feeding.specs.Record.{fresh}
+use Rattle.feeder.specs.Record.{fresh}
+use Rattle.feeder.specs.End.{end}
 use Rattle.feeding.specs.Feed.{feed}
-use Rattle.feeding.specs.End.{end}
 use Rattle.feeding.specs.declared.Fed.{Fed}
 use Rattle.caf.specs.FeederNumbers.{feederPlaces, feederNumbers, feederOf, isFeeder}
 

@@ -4,7 +4,7 @@ use Prim.Native.Nat.{ℕ}
 use mathlib.Core.List.{List, [], _∷_, flatten}
 use lib.ListN.{length}
 use Rattle.reading.specs.Claims.{Bytes}
-use Rattle.feeding.specs.End.{fedAnswer}
+use Rattle.fed.specs.Answer.{fedAnswer}
 use Rattle.caf.specs.FeederNumbers.{feederPlaces}
 use Rattle.caf.specs.FeederCalls.{beginRecord, feedOn, feederAfter, endOn}
 

@@ -6,11 +6,11 @@ use lib.ListN.{length, take, drop, replicate}
 use lib.Dec.{leb, eqb}
 use Rattle.byteorder.specs.Big.{bigAt, bigBytes}
 use Rattle.format.specs.declared.AudioFormat.{AudioFormat}
-use Rattle.feeding.specs.declared.Phase.{Phase}
-use Rattle.feeding.specs.declared.Phase.the-variants.{FileHeader, FirstHeader, Desc, Header, Skipping, Edit, OpenData, ClosedData, Refused}
-use Rattle.feeding.specs.declared.DataChunk.{DataChunk}
-use Rattle.feeding.specs.declared.DataChunk.the-variants.{Ahead, Passed}
-use Rattle.feeding.specs.declared.Feeder.{Feeder}
+use Rattle.feeder.specs.declared.Phase.{Phase}
+use Rattle.feeder.specs.declared.Phase.the-variants.{FileHeader, FirstHeader, Desc, Header, Skipping, Edit, OpenData, ClosedData, Refused}
+use Rattle.feeder.specs.declared.DataChunk.{DataChunk}
+use Rattle.feeder.specs.declared.DataChunk.the-variants.{Ahead, Passed}
+use Rattle.feeder.specs.declared.Feeder.{Feeder}
 use Rattle.caf.specs.FormatNumbers.{audioNumbers}
 use Rattle.caf.specs.RecordNumbers.{at, audioOf, isWord, allWords}
 

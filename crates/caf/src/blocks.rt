@@ -9,7 +9,7 @@ use crate::readings::tell_strict;
 use answers::BAD_WRITER;
 use answers::DONE;
 use answers::NO_ROOM;
-use feeding::end::end;
+use feeder::end::end;
 use feeding::feed::feed;
 use feeding::feed::fresh;
 use reading::StrictAnswer;

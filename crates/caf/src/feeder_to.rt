@@ -1,9 +1,9 @@
 // The feeding record put into the array that a caller keeps.
 use crate::format_numbers::audio_numbers;
 use byteorder::read::be_u64;
-use feeding::DataChunk;
-use feeding::Feeder;
-use feeding::Phase;
+use feeder::DataChunk;
+use feeder::Feeder;
+use feeder::Phase;
 ghost use mathlib.Core.Path.{_≡_};
 ghost use Rattle.caf.specs.FeederNumbers.{headerKind, skippingKind, phaseKind, phaseFormat, phaseNumber, passedSize, phaseSize, passedStart, phaseStart, feederNumbers};
 

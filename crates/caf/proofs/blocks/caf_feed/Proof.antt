@@ -1,5 +1,5 @@
 use Rattle.caf.proofs.Feeders.{is-feeder, kept-whole, none-fed, unsound-fed, was-fed}
-use Rattle.feeding.specs.declared.Feeder.{Feeder}
+use Rattle.feeder.specs.declared.Feeder.{Feeder}
 use Rattle.feeding.specs.Feed.{feed}
 use borrow.Author.Tests.{not-true, not-false}
 use mathlib.Core.Path.{sym, _∙_, ap}

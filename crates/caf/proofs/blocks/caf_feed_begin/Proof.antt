@@ -1,6 +1,6 @@
 use Rattle.caf.proofs.Feeders.{kept-whole}
 use Rattle.caf.specs.FeederNumbers.{feederNumbers}
-use Rattle.feeding.specs.Record.{fresh}
+use Rattle.feeder.specs.Record.{fresh}
 use borrow.Author.Tests.{eq-eqb, ne-eqb}
 use mathlib.Core.Path.{_∙_, ap}
 use borrow.Author.Needs.{needs}

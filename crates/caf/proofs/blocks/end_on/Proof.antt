@@ -1,5 +1,5 @@
 use Rattle.caf.specs.FeederCalls.{endOn}
-use Rattle.feeding.specs.End.{end}
+use Rattle.feeder.specs.End.{end}
 use borrow.Author.Tests.{not-true, not-false}
 use mathlib.Core.Path.{sym, _∙_, ap}
 use borrow.Author.Needs.{needs}
