@@ -15,7 +15,7 @@ use Rattle.feeding.proofs.Step.{refused-bytes}
 use Rattle.fed.specs.Claims.{Feeds}
 
 -- by whether a record is sound
-by-sound : (P : Type 0) (b : Bool) → (b ≡ true → P) → (b ≡ false → P) → P
+pub by-sound : (P : Type 0) (b : Bool) → (b ≡ true → P) → (b ≡ false → P) → P
 by-sound P true f g = f refl
 by-sound P false f g = g refl
 

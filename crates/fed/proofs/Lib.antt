@@ -4,6 +4,7 @@ pub mod Follow
 pub mod Whole
 pub mod Cut
 pub mod Limit
+pub mod Passed
 pub mod Theorems
 pub mod ByTurns
 pub mod Few

@@ -11,6 +11,7 @@ use Rattle.feeder.specs.Record.{heldRoom, fresh, isByBytes, sound}
 use Rattle.feeder.specs.End.{end}
 use Rattle.feeder.specs.declared.Feeder.{Feeder}
 use Rattle.feeding.specs.Feed.{isRefused, feedBytes, feed, feedAll}
+use Rattle.feeding.specs.Pass.{passable, pass}
 use Rattle.feeding.specs.Turns.{roomFor}
 use Rattle.fed.specs.Answer.{cutOff, fedAnswer}
 use Rattle.fed.specs.ByTurns.{turns, byTurns}
@@ -61,3 +62,7 @@ abbrev pub FewTurns : Type 0
 FewTurns =
     (r : Feeder) (block : List ℕ) → sound r ≡ true → length (r .held) ≡ heldRoom → length block ≤ roomFor r
     → turns (2 * (feedBytes r block .chunks - r .chunks) + 3) r block ≡ feedBytes r block
+
+-- bytes that are passed over need not be known: it is as if any so many were fed
+abbrev pub PassedIsFed : Type 0
+PassedIsFed = (r : Feeder) (block : List ℕ) → length block ≤ passable r → pass r (length block) ≡ feed r block
