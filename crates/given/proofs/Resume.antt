@@ -13,7 +13,7 @@ use Rattle.reading.specs.declared.PlainAnswer.{PlainAnswer}
 use Rattle.reading.specs.declared.PlainAnswer.the-variants.{Found, NotRead}
 use Rattle.reading.proofs.Choice.{either}
 use Rattle.writer.specs.Header.{exceeds}
-use Rattle.writer.specs.Resume.{behindHeader, tailNumber, resumedAs, resumed}
+use Rattle.writer.specs.Resume.{afterHeader, tailNumber, resumedAs, resumed}
 use Rattle.writer.specs.declared.Resumed.{Resumed}
 use Rattle.given.specs.Rows
 use Rattle.given.specs.Rows.{Fits, ResumeGives}
@@ -39,8 +39,8 @@ module _ (buf : List ℕ) (len : ℕ) where
   tail-gives f info k e =
       either (ResumeGives buf len) (ltb (sizeOf info) 4) (λ s. ResumeGives.too-small f e (ltb-true (sizeOf info) 4 s))
       (λ s. let l = ltb-false (sizeOf info) 4 s in
-      either (ResumeGives buf len) (ltb (sizeOf info) (behindHeader file info)) (λ t. ResumeGives.tail f e l (ltb-true (sizeOf info) (behindHeader file info) t))
-      (λ t. ResumeGives.accepted f e l (ltb-false (sizeOf info) (behindHeader file info) t)))
+      either (ResumeGives buf len) (ltb (sizeOf info) (afterHeader file info)) (λ t. ResumeGives.tail f e l (ltb-true (sizeOf info) (afterHeader file info) t))
+      (λ t. ResumeGives.accepted f e l (ltb-false (sizeOf info) (afterHeader file info) t)))
 
   as-gives : Fits len (length buf) → (a : PlainAnswer) → plain file ≡ a → Row (resumedAs file a len)
   as-gives f (Found info k) e = subst (ResumeGives buf len) (sym (found-number info k)) (tail-gives f info k e)
@@ -61,13 +61,13 @@ module _ (buf : List ℕ) (len : ℕ) where
   unfolding tailNumber
   small-number info s = rw (lt-ltb (sizeOf info) 4 s)
 
-  tail-number : (info : CAFFileInfo) → 4 ≤ sizeOf info → sizeOf info < behindHeader file info → tailNumber file info ≡ tailAfterData
+  tail-number : (info : CAFFileInfo) → 4 ≤ sizeOf info → sizeOf info < afterHeader file info → tailNumber file info ≡ tailAfterData
   unfolding tailNumber
-  tail-number info l t = rw (le-ltb (sizeOf info) 4 l, lt-ltb (sizeOf info) (behindHeader file info) t)
+  tail-number info l t = rw (le-ltb (sizeOf info) 4 l, lt-ltb (sizeOf info) (afterHeader file info) t)
 
-  whole-number : (info : CAFFileInfo) → 4 ≤ sizeOf info → behindHeader file info ≤ sizeOf info → tailNumber file info ≡ done
+  whole-number : (info : CAFFileInfo) → 4 ≤ sizeOf info → afterHeader file info ≤ sizeOf info → tailNumber file info ≡ done
   unfolding tailNumber
-  whole-number info l t = rw (le-ltb (sizeOf info) 4 l, le-ltb (sizeOf info) (behindHeader file info) t)
+  whole-number info l t = rw (le-ltb (sizeOf info) 4 l, le-ltb (sizeOf info) (afterHeader file info) t)
 
   pub resume-row : (number : ℕ) → ResumeGives buf len number → resumed buf len .number ≡ number
   unfolding resumed

@@ -17,7 +17,7 @@ use Rattle.reading.specs.declared.CAFFileInfo.{CAFFileInfo}
 use Rattle.reading.specs.declared.PlainAnswer.the-variants.{Found, NotRead}
 use Rattle.writer.specs.Sound.{soundAlone, sound}
 use Rattle.writer.specs.Header.{headerOf}
-use Rattle.writer.specs.Resume.{behindHeader}
+use Rattle.writer.specs.Resume.{afterHeader}
 use Rattle.writer.specs.declared.CAFWriter.{CAFWriter}
 
 -- a file of so many bytes: longer than the lent buffer, or than any file may be; or neither
@@ -75,10 +75,10 @@ pub data ResumeGives (buf : List ℕ) (len : ℕ) : ℕ → Type 0 where
   too-small : Fits len (length buf) → {info : CAFFileInfo} {k : ℕ} → plain (take len buf) ≡ Found info k
       → bigAt 8 (take len buf) (info .«size_position») < 4 → ResumeGives buf len badSize
   tail : Fits len (length buf) → {info : CAFFileInfo} {k : ℕ} → plain (take len buf) ≡ Found info k
-      → 4 ≤ bigAt 8 (take len buf) (info .«size_position») → bigAt 8 (take len buf) (info .«size_position») < behindHeader (take len buf) info
+      → 4 ≤ bigAt 8 (take len buf) (info .«size_position») → bigAt 8 (take len buf) (info .«size_position») < afterHeader (take len buf) info
       → ResumeGives buf len tailAfterData
   accepted : Fits len (length buf) → {info : CAFFileInfo} {k : ℕ} → plain (take len buf) ≡ Found info k
-      → 4 ≤ bigAt 8 (take len buf) (info .«size_position») → behindHeader (take len buf) info ≤ bigAt 8 (take len buf) (info .«size_position»)
+      → 4 ≤ bigAt 8 (take len buf) (info .«size_position») → afterHeader (take len buf) info ≤ bigAt 8 (take len buf) (info .«size_position»)
       → ResumeGives buf len done
 
 -- a setting whose own number is this one. It is lent no buffer

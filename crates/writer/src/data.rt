@@ -18,7 +18,7 @@ use pcm::packing::pack_first;
 use pcm::sample::SAMPLE_SIZE;
 ghost use mathlib.Core.Path.{_≡_};
 ghost use lib.ListN.{length};
-ghost use Rattle.writer.specs.Outcome.{answer, bufferAfter, counted, bufferCut};
+ghost use Rattle.writer.specs.Outcome.{Gives, GivesFirst};
 ghost use Rattle.writer.specs.Data.{dataNumber, dataCall, samplesNumber, samplesCall, withoutFormat};
 
 // The number for packing into a file without a format, from the one for as many bytes: NoFormat comes before NoRoom and after the others.
@@ -60,7 +60,7 @@ impl CAFWriter {
 
     // Does the first n stores of the call.
     pub fn write_data_counted(self, buf: &mut [u8], data: &[u8], n: usize) -> Counted
-        ensures { λ r. ⌜ (r ≡ counted n (dataCall self (length (now (buf .entry))) (now («data» .entry))) self) × (now (buf .exit) ≡ bufferCut n (dataCall self (length (now (buf .entry))) (now («data» .entry))) (now (buf .entry))) ⌝ }
+        ensures { λ r. ⌜ GivesFirst n (dataCall self (length (now (buf .entry))) (now («data» .entry))) self r (now (buf .entry)) (now (buf .exit)) ⌝ }
     {
         let number = self.data_number(buf.len(), data.len());
         let len = self.file_len;
@@ -71,8 +71,8 @@ impl CAFWriter {
         with_stores(len, len, stores)
     }
 
-    pub fn write_data(self, buf: &mut [u8], data: &[u8]) -> Wrote
-        ensures { λ r. ⌜ (r ≡ answer (dataCall self (length (now (buf .entry))) (now («data» .entry)))) × (now (buf .exit) ≡ bufferAfter (dataCall self (length (now (buf .entry))) (now («data» .entry))) (now (buf .entry))) ⌝ }
+    pub fn write_data(mut self, buf: &mut [u8], data: &[u8]) -> Wrote
+        ensures { λ r. ⌜ Gives (dataCall self (length (now (buf .entry))) (now («data» .entry))) r (now (buf .entry)) (now (buf .exit)) ⌝ }
     {
         let done = self.write_data_counted(buf, data, ALL);
         if done.number != DONE {
@@ -81,9 +81,11 @@ impl CAFWriter {
                 writer: self,
             };
         }
+        self.file_len += done.stores;
+        self.data_count += done.stores;
         Wrote {
             number: DONE,
-            writer: self.with_data(done.stores),
+            writer: self,
         }
     }
 
@@ -106,7 +108,7 @@ impl CAFWriter {
         samples: &[i32],
         n: usize,
     ) -> Counted
-        ensures { λ r. ⌜ (r ≡ counted n (samplesCall self (length (now (buf .entry))) (now (samples .entry))) self) × (now (buf .exit) ≡ bufferCut n (samplesCall self (length (now (buf .entry))) (now (samples .entry))) (now (buf .entry))) ⌝ }
+        ensures { λ r. ⌜ GivesFirst n (samplesCall self (length (now (buf .entry))) (now (samples .entry))) self r (now (buf .entry)) (now (buf .exit)) ⌝ }
     {
         let number = self.samples_number(buf.len(), SAMPLE_SIZE * samples.len());
         let len = self.file_len;
@@ -118,8 +120,8 @@ impl CAFWriter {
         with_stores(len, len, stores)
     }
 
-    pub fn write_pcm_24bit_as_packed(self, buf: &mut [u8], samples: &[i32]) -> Wrote
-        ensures { λ r. ⌜ (r ≡ answer (samplesCall self (length (now (buf .entry))) (now (samples .entry)))) × (now (buf .exit) ≡ bufferAfter (samplesCall self (length (now (buf .entry))) (now (samples .entry))) (now (buf .entry))) ⌝ }
+    pub fn write_pcm_24bit_as_packed(mut self, buf: &mut [u8], samples: &[i32]) -> Wrote
+        ensures { λ r. ⌜ Gives (samplesCall self (length (now (buf .entry))) (now (samples .entry))) r (now (buf .entry)) (now (buf .exit)) ⌝ }
     {
         let done = self.write_pcm_24bit_as_packed_counted(buf, samples, ALL);
         if done.number != DONE {
@@ -128,9 +130,11 @@ impl CAFWriter {
                 writer: self,
             };
         }
+        self.file_len += done.stores;
+        self.data_count += done.stores;
         Wrote {
             number: DONE,
-            writer: self.with_data(done.stores),
+            writer: self,
         }
     }
 }

@@ -15,7 +15,7 @@ ghost use mathlib.Core.Path.{_≡_};
 ghost use Prim.Native.Nat.{_≤_};
 ghost use lib.ListN.{length};
 ghost use Rattle.answers.specs.Numbers.{fileMax};
-ghost use Rattle.writer.specs.Outcome.{answer, bufferAfter, counted, bufferCut};
+ghost use Rattle.writer.specs.Outcome.{Gives, GivesFirst};
 ghost use Rattle.writer.specs.Finish.{finishNumber, finalSize, finishCall};
 
 impl CAFWriter {
@@ -45,7 +45,7 @@ impl CAFWriter {
 
     // Does the first n stores of the call.
     pub fn finish_counted(self, buf: &mut [u8], n: usize) -> Counted
-        ensures { λ r. ⌜ (r ≡ counted n (finishCall self (length (now (buf .entry)))) self) × (now (buf .exit) ≡ bufferCut n (finishCall self (length (now (buf .entry)))) (now (buf .entry))) ⌝ }
+        ensures { λ r. ⌜ GivesFirst n (finishCall self (length (now (buf .entry)))) self r (now (buf .entry)) (now (buf .exit)) ⌝ }
     {
         let number = self.finish_number(buf.len());
         let len = self.file_len;
@@ -61,8 +61,8 @@ impl CAFWriter {
         with_stores(len, at, stores)
     }
 
-    pub fn finish(self, buf: &mut [u8]) -> Wrote
-        ensures { λ r. ⌜ (r ≡ answer (finishCall self (length (now (buf .entry))))) × (now (buf .exit) ≡ bufferAfter (finishCall self (length (now (buf .entry)))) (now (buf .entry))) ⌝ }
+    pub fn finish(mut self, buf: &mut [u8]) -> Wrote
+        ensures { λ r. ⌜ Gives (finishCall self (length (now (buf .entry)))) r (now (buf .entry)) (now (buf .exit)) ⌝ }
     {
         let done = self.finish_counted(buf, ALL);
         if done.number != DONE {
@@ -71,9 +71,10 @@ impl CAFWriter {
                 writer: self,
             };
         }
+        self.finished = true;
         Wrote {
             number: DONE,
-            writer: self.as_finished(),
+            writer: self,
         }
     }
 }

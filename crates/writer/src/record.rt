@@ -1,14 +1,13 @@
-// The record: a fresh one, its figures, and its changes. A record is made anew, since a field that is an enum is not assigned.
+// The record: a fresh one, its figures, and one with another format. A call changes the fields of its own record, but a field that is an
+// enum cannot be assigned: for those the record is made anew.
 use crate::CAFWriter;
 use crate::CAFWriterStats;
 use format::AudioFormat;
 use format::Endianness;
 use format::MaybeFormat;
 use layout::ChannelLayout;
-use reading::sizes::SIZE_TO_DATA;
 ghost use mathlib.Core.Path.{_≡_};
-ghost use Prim.Native.Nat.{_+_, _≤_, _<_, _^_};
-ghost use Rattle.writer.specs.Record.{fresh, withFormat, withHeader, withData, asFinished, statsOf};
+ghost use Rattle.writer.specs.Record.{fresh, withFormat, statsOf};
 
 impl CAFWriter {
     pub fn new() -> CAFWriter
@@ -57,34 +56,5 @@ impl CAFWriter {
             data_count: self.data_count,
             finished: self.finished,
         }
-    }
-
-    // With a header of n bytes.
-    pub(crate) fn with_header(mut self, n: usize) -> CAFWriter
-        requires { ⌜ 12 ≤ n ⌝ }
-        ensures { λ r. ⌜ r ≡ withHeader self n ⌝ }
-    {
-        self.has_header = true;
-        self.size_position = n - SIZE_TO_DATA;
-        self.data_start = n;
-        self.file_len = n;
-        self
-    }
-
-    // With n data bytes more.
-    pub(crate) fn with_data(mut self, n: usize) -> CAFWriter
-        requires { ⌜ (self .«file_len» + n < 2 ^ 64) × (self .«data_count» + n < 2 ^ 64) ⌝ }
-        ensures { λ r. ⌜ r ≡ withData self n ⌝ }
-    {
-        self.file_len += n;
-        self.data_count += n;
-        self
-    }
-
-    pub(crate) fn as_finished(mut self) -> CAFWriter
-        ensures { λ r. ⌜ r ≡ asFinished self ⌝ }
-    {
-        self.finished = true;
-        self
     }
 }

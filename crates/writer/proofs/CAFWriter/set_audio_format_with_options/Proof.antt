@@ -1,61 +1,84 @@
 use mathlib.Core.Path.{sym, _∙_, ap}
 use Prim.Native.Nat.{ℕ}
 use Rattle.format.specs.Setting.{pcmFormat, formatNumber}
-use Rattle.format.proofs.SettingAnswers.{setting-given, setting-refused}
+use Rattle.format.specs.FormatAnswers as F
+use Rattle.format.specs.declared.AudioFormat.{AudioFormat}
+use Rattle.format.proofs.SettingAnswers.{setting-number, setting-given, setting-refused}
 use Rattle.writer.specs.Record.{withFormat}
-use Rattle.writer.specs.Outcome.{answer}
-use Rattle.writer.specs.Settings.{setting, formatCall}
-use Rattle.writer.proofs.Settling.{refused-alike}
+use Rattle.writer.specs.Settings.{settingNumber, formatCall}
+use Rattle.writer.proofs.Settling.{refused-answer, done-answer, own-refused}
 use borrow.Author.Needs.{needs}
 use Rattle.writer.proofs.CAFWriter.set_audio_format_with_options.Statement.{statement}
 use Rattle.writer.proofs.CAFWriter.set_audio_format_with_options.Tie as tie
+use Rattle.writer.proofs.CAFWriter.set_audio_format_with_options.Reads as reads
+use Rattle.writer.proofs.CAFWriter.set_audio_format_with_options.Lts as lts
+use Rattle.format.proofs.setting.pcm_format.Reads as pcm-format-reads
+use Rattle.format.proofs.setting.setting_number.Reads as setting-number-reads
+use Rattle.writer.proofs.CAFWriter.settling.Reads as settling-reads
+use Rattle.writer.proofs.CAFWriter.with_format.Reads as with-format-reads
 
 pcm-format-requires : tie.Need-pcm-format-requires
 pcm-format-requires c κs = search needs
 
+setting-number-requires : tie.Need-setting-number-requires
+setting-number-requires c κs = search needs
+
+settling-requires : tie.Need-settling-requires
+settling-requires c κs = search needs
+
 enum-known-set : tie.Need-enum-known-set
 enum-known-set c = search needs
 
-settled-requires : tie.Need-settled-requires
-settled-requires c κs = search needs
-
-enum-known-set-2 : tie.Need-enum-known-set-2
-enum-known-set-2 c = search needs
-
-with-format-requires : tie.Need-with-format-requires
-with-format-requires c κs = search needs
-
-settled-requires-2 : tie.Need-settled-requires-2
-settled-requires-2 c κs = search needs
+enum-told : tie.Need-enum-told
+enum-told c = search needs
 
 returns : tie.Need-returns
 unfolding formatCall
 returns c =
     let a = c .before .before .before .before .before .args in
     let w = a .self in
-    let number = formatNumber (a .sample-rate) (a .channels) (a .bits-per-channel) in
+    let own = formatNumber (a .sample-rate) (a .channels) (a .bits-per-channel) in
     let after = withFormat w (pcmFormat (a .sample-rate) (a .channels) (a .bits-per-channel) (a .data-type) (a .endianness)) (a .endianness) in
-    let set = c .before .before .set .given in
+    let is = c .before .before .settling .ensures ∙ ap (λ (n : ℕ). settingNumber w n) (c .before .before .before .setting-number .ensures ∙ ap F.settingNumber (c .before .before .before .before .pcm-format .ensures) ∙ setting-number (a .sample-rate) (a .channels) (a .bits-per-channel) (a .data-type) (a .endianness)) in
+    let set = c .enum-told .given in
     let r = setting-refused (a .sample-rate) (a .channels) (a .bits-per-channel) (a .data-type) (a .endianness) (set .0 .0) (sym (c .before .before .before .before .pcm-format .ensures) ∙ set .1) in
-    c .settled .ensures ∙ ap (λ (n : ℕ). answer (setting n w w)) (sym (r .0)) ∙ ap answer (refused-alike number w w after (r .1))
+    refused-answer own w after is (own-refused own w after is (r .1))
 
 returns-2 : tie.Need-returns-2
 unfolding formatCall
 returns-2 c =
-    let a = c .before .before .before .before .before .before .args in
-    let set = c .before .before .before .set2 .given in
-    let g = setting-given (a .sample-rate) (a .channels) (a .bits-per-channel) (a .data-type) (a .endianness) (set .0 .0) (sym (c .before .before .before .before .before .pcm-format .ensures) ∙ set .1) in
-    rw (g .0, g .1, ← c .before .with-format .ensures) (c .settled2 .ensures)
+    let a = c .before .before .before .before .before .before .before .args in
+    let w = a .self in
+    let own = formatNumber (a .sample-rate) (a .channels) (a .bits-per-channel) in
+    let after = withFormat w (pcmFormat (a .sample-rate) (a .channels) (a .bits-per-channel) (a .data-type) (a .endianness)) (a .endianness) in
+    let is = c .before .before .before .before .settling .ensures ∙ ap (λ (n : ℕ). settingNumber w n) (c .before .before .before .before .before .setting-number .ensures ∙ ap F.settingNumber (c .before .before .before .before .before .before .pcm-format .ensures) ∙ setting-number (a .sample-rate) (a .channels) (a .bits-per-channel) (a .data-type) (a .endianness)) in
+    refused-answer own w after is (c .if1 .taken)
+
+with-format-requires : tie.Need-with-format-requires
+with-format-requires c κs = search needs
+
+returns-3 : tie.Need-returns-3
+unfolding formatCall
+returns-3 c =
+    let a = c .before .before .before .before .before .before .before .before .args in
+    let w = a .self in
+    let own = formatNumber (a .sample-rate) (a .channels) (a .bits-per-channel) in
+    let after = withFormat w (pcmFormat (a .sample-rate) (a .channels) (a .bits-per-channel) (a .data-type) (a .endianness)) (a .endianness) in
+    let is = c .before .before .before .before .before .settling .ensures ∙ ap (λ (n : ℕ). settingNumber w n) (c .before .before .before .before .before .before .setting-number .ensures ∙ ap F.settingNumber (c .before .before .before .before .before .before .before .pcm-format .ensures) ∙ setting-number (a .sample-rate) (a .channels) (a .bits-per-channel) (a .data-type) (a .endianness)) in
+    let set = c .before .before .before .set .given in
+    let g = setting-given (a .sample-rate) (a .channels) (a .bits-per-channel) (a .data-type) (a .endianness) (set .0 .0) (sym (c .before .before .before .before .before .before .before .pcm-format .ensures) ∙ set .1) in
+    done-answer own w after is (c .before .if1 .left) (c .with-format .ensures ∙ ap (λ (x : AudioFormat). withFormat w x (a .endianness)) (sym (g .1)))
 
 pub set-audio-format-with-options-spec : {M : Type 1} → statement M
 set-audio-format-with-options-spec =
     tie.close
     (tie.spec
     pcm-format-requires
+    setting-number-requires
+    settling-requires
     enum-known-set
-    settled-requires
-    enum-known-set-2
-    with-format-requires
-    settled-requires-2
+    enum-told
     returns
-    returns-2)
+    returns-2
+    with-format-requires
+    returns-3)

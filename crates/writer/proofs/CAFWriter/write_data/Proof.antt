@@ -1,10 +1,13 @@
-use Rattle.writer.proofs.Whole.{all, data-refused, data-buffer, data-fits, data-answer}
-use lib.ListN.{length}
+use mathlib.Core.Path.{refl}
 use native.Mathlib.Omega.{arith}
-use Prim.Native.Nat.{_≤_}
+use lib.ListN.{length}
+use Rattle.writer.proofs.Whole.{data-refused, data-buffer, data-fits, data-answer}
 use borrow.Author.Needs.{needs}
 use Rattle.writer.proofs.CAFWriter.write_data.Statement.{statement}
 use Rattle.writer.proofs.CAFWriter.write_data.Tie as tie
+use Rattle.writer.proofs.CAFWriter.write_data.Reads as reads
+use Rattle.writer.proofs.CAFWriter.write_data.Lts as lts
+use Rattle.writer.proofs.CAFWriter.write_data_counted.Reads as write-data-counted-reads
 
 write-data-counted-requires : tie.Need-write-data-counted-requires
 write-data-counted-requires c κs = search needs
@@ -13,29 +16,35 @@ same-length : tie.Need-same-length
 same-length c = search needs
 
 returns : tie.Need-returns
-returns c = let a = c .before .before .before .before .before .before .before .before .args in
+returns c =
+    let a = c .before .before .before .before .before .before .before .before .args in
     let k = c .before .before .before .before .write-data-counted in
-    let f : length (a .buf .now) ≤ all = omega arith in (
-      data-refused (a .self) (length (a .buf .now)) (a .«data» .now) f (k .result) (k .ensures .0) (c .if1 .taken),
-      data-buffer (a .self) (length (a .buf .now)) (a .«data» .now) f (a .buf .now) _ (k .ensures .1),
-    )
+    let room = length (a .buf .now) in
+    (data-refused (a .self) room (a .«data» .now) (k .result) (k .ensures .0) (c .if1 .taken), data-buffer (a .self) room (a .«data» .now) (a .buf .now) _ (k .ensures .1))
 
-with-data-requires : tie.Need-with-data-requires
-with-data-requires c κs = let a = c .before .before .before .before .before .before .before .before .args in
-    let k = c .before .before .before .before .write-data-counted in
-    let f : length (a .buf .now) ≤ all = omega arith in
-    data-fits (a .self) (length (a .buf .now)) (a .«data» .now) f (k .result) (k .ensures .0) (c .if1 .left)
+add-self : tie.Need-add-self
+add-self c =
+    let a = c .before .before .before .before .before .before .before .before .before .before .args in
+    let k = c .before .before .before .before .before .before .write-data-counted in
+    let room = length (a .buf .now) in
+    omega (arith, data-fits (a .self) room (a .«data» .now) (k .result) (k .ensures .0) (c .before .before .if1 .left) .0)
+
+add-self-2 : tie.Need-add-self-2
+add-self-2 c =
+    let a = c .before .before .before .before .before .before .before .before .before .before .before .before .args in
+    let k = c .before .before .before .before .before .before .before .before .write-data-counted in
+    let room = length (a .buf .now) in
+    omega (arith, data-fits (a .self) room (a .«data» .now) (k .result) (k .ensures .0) (c .before .before .before .before .if1 .left) .1)
 
 same-length-2 : tie.Need-same-length-2
 same-length-2 c = search needs
 
 returns-2 : tie.Need-returns-2
-returns-2 c = let a = c .before .before .before .before .before .before .before .before .before .args in
-    let k = c .before .before .before .before .before .write-data-counted in
-    let f : length (a .buf .now) ≤ all = omega arith in (
-      data-answer (a .self) (length (a .buf .now)) (a .«data» .now) f (k .result) (k .ensures .0) (c .before .if1 .left) (c .with-data .result) (c .with-data .ensures),
-      data-buffer (a .self) (length (a .buf .now)) (a .«data» .now) f (a .buf .now) _ (k .ensures .1),
-    )
+returns-2 c =
+    let a = c .before .before .before .before .before .before .before .before .before .before .before .before .args in
+    let k = c .before .before .before .before .before .before .before .before .write-data-counted in
+    let room = length (a .buf .now) in
+    (data-answer (a .self) room (a .«data» .now) (k .result) (k .ensures .0) (c .before .before .before .before .if1 .left) _ refl, data-buffer (a .self) room (a .«data» .now) (a .buf .now) _ (k .ensures .1))
 
 pub write-data-spec : {M : Type 1} → statement M
 write-data-spec =
@@ -44,6 +53,7 @@ write-data-spec =
     write-data-counted-requires
     same-length
     returns
-    with-data-requires
+    add-self
+    add-self-2
     same-length-2
     returns-2)
