@@ -1,83 +1,49 @@
-use Prim.Native.Nat.{_+_}
-use native.Mathlib.Omega.{arith}
 use native.Mathlib.Nat.{add-zero}
+use mathlib.Core.Path.{_∙_}
 use borrow.Author.Needs.{needs}
 use Rattle.byteorder.proofs.read.four.Statement.{statement}
 use Rattle.byteorder.proofs.read.four.Tie as tie
+use Rattle.byteorder.proofs.read.four.Reads as reads
+use Rattle.byteorder.proofs.read.four.Lts as lts
+use Rattle.byteorder.proofs.read.u32_of.Reads as u32-of-reads
 
-shared-slice-read-result : tie.Need-shared-slice-read-result
-shared-slice-read-result c = search needs
+shared-slice-read-t4 : tie.Need-shared-slice-read-t4
+shared-slice-read-t4 c = search needs
 
-cast-result : tie.Need-cast-result
-cast-result c = omega (arith, c .shared-slice-known .given (c .before .args .p))
+add-t5 : tie.Need-add-t5
+add-t5 c = search needs
 
-mul-result : tie.Need-mul-result
-mul-result c = omega (arith, c .shared-slice-known .given (c .before .args .p))
+shared-slice-read-t7 : tie.Need-shared-slice-read-t7
+shared-slice-read-t7 c = search needs
 
-add-result : tie.Need-add-result
-add-result c = search needs
+add-t8 : tie.Need-add-t8
+add-t8 c = search needs
 
-shared-slice-read-result-2 : tie.Need-shared-slice-read-result-2
-shared-slice-read-result-2 c = search needs
+shared-slice-read-t10 : tie.Need-shared-slice-read-t10
+shared-slice-read-t10 c = search needs
 
-cast-result-2 : tie.Need-cast-result-2
-cast-result-2 c = let g = c .before .shared-slice-known .given in let p = c .before .before .args .p in omega (arith, g (p + 1))
+add-t11 : tie.Need-add-t11
+add-t11 c = search needs
 
-add-result-2 : tie.Need-add-result-2
-add-result-2 c = let g = c .before .shared-slice-known .given in let p = c .before .before .args .p in omega (arith, g p, g (p + 1))
+shared-slice-read-t13 : tie.Need-shared-slice-read-t13
+shared-slice-read-t13 c = search needs
 
-mul-result-2 : tie.Need-mul-result-2
-mul-result-2 c = let g = c .before .shared-slice-known .given in let p = c .before .before .args .p in omega (arith, g p, g (p + 1))
-
-add-result-3 : tie.Need-add-result-3
-add-result-3 c = search needs
-
-shared-slice-read-result-3 : tie.Need-shared-slice-read-result-3
-shared-slice-read-result-3 c = search needs
-
-cast-result-3 : tie.Need-cast-result-3
-cast-result-3 c = let g = c .before .before .shared-slice-known .given in let p = c .before .before .before .args .p in omega (arith, g (p + 2))
-
-add-result-4 : tie.Need-add-result-4
-add-result-4 c = let g = c .before .before .shared-slice-known .given in let p = c .before .before .before .args .p in omega (arith, g p, g (p + 1), g (p + 2))
-
-mul-result-3 : tie.Need-mul-result-3
-mul-result-3 c = let g = c .before .before .shared-slice-known .given in let p = c .before .before .before .args .p in omega (arith, g p, g (p + 1), g (p + 2))
-
-add-result-5 : tie.Need-add-result-5
-add-result-5 c = search needs
-
-shared-slice-read-result-4 : tie.Need-shared-slice-read-result-4
-shared-slice-read-result-4 c = search needs
-
-cast-result-4 : tie.Need-cast-result-4
-cast-result-4 c = let g = c .before .before .before .shared-slice-known .given in let p = c .before .before .before .before .args .p in omega (arith, g (p + 3))
-
-add-result-6 : tie.Need-add-result-6
-add-result-6 c = let g = c .before .before .before .shared-slice-known .given in let p = c .before .before .before .before .args .p in omega (arith, g p, g (p + 1), g (p + 2), g (p + 3))
+u32-of-requires : tie.Need-u32-of-requires
+u32-of-requires c κs = search needs
 
 returns : tie.Need-returns
-returns c = rw add-zero (omega arith)
+returns c = c .u32-of .ensures ∙ rw add-zero
 
 pub four-spec : {M : Type 1} → statement M
 four-spec =
     tie.close
     (tie.spec
-    shared-slice-read-result
-    cast-result
-    mul-result
-    add-result
-    shared-slice-read-result-2
-    cast-result-2
-    add-result-2
-    mul-result-2
-    add-result-3
-    shared-slice-read-result-3
-    cast-result-3
-    add-result-4
-    mul-result-3
-    add-result-5
-    shared-slice-read-result-4
-    cast-result-4
-    add-result-6
+    shared-slice-read-t4
+    add-t5
+    shared-slice-read-t7
+    add-t8
+    shared-slice-read-t10
+    add-t11
+    shared-slice-read-t13
+    u32-of-requires
     returns)
