@@ -13,7 +13,8 @@
  *
  * From the environment: FILM_STOP_AFTER=n kills the process when n bytes were written to files, in the middle
  * of a write if need be. FILM_SHORT=n lets a write take at most n bytes, and interrupts every third one.
- * FILM_SLOW=n makes every sync take n microseconds more before it and after it. */
+ * FILM_SLOW=n makes every sync take n microseconds more before it and after it. FILM_TELL=1 prints every
+ * write, with its place and length, and every sync. */
 #define _DEFAULT_SOURCE
 #include <errno.h>
 #include <fcntl.h>
@@ -72,6 +73,8 @@ ssize_t __wrap_pwrite(int fd, const void *bytes, size_t n, off_t at) {
         n = most;
     if (n > stop_after - written)
         n = stop_after - written;
+    if (from_environment("FILM_TELL", 0))
+        printf("write %lld %zu\n", (long long)at, n);
     wrote = __real_pwrite(fd, bytes, n, at);
     if (wrote > 0)
         written += (uint64_t)wrote;
@@ -84,6 +87,8 @@ int __wrap_fdatasync(int fd) {
     useconds_t slow = (useconds_t)from_environment("FILM_SLOW", 0);
     int done;
 
+    if (from_environment("FILM_TELL", 0))
+        puts("sync");
     usleep(slow);
     done = __real_fdatasync(fd);
     usleep(slow);
