@@ -13,8 +13,8 @@
  *
  * From the environment: FILM_STOP_AFTER=n kills the process when n bytes were written to files, in the middle
  * of a write if need be. FILM_SHORT=n lets a write take at most n bytes, and interrupts every third one.
- * FILM_SLOW=n makes every sync take n microseconds more before it and after it. FILM_TELL=1 prints every
- * write, with its place and length, and every sync. */
+ * FILM_SLOW=n makes every sync take n microseconds more before it and after it. FILM_BAD_SYNC=n makes the
+ * sync of that number fail. FILM_TELL=1 prints every write, with its place and length, and every sync. */
 #define _DEFAULT_SOURCE
 #include <errno.h>
 #include <fcntl.h>
@@ -84,9 +84,14 @@ ssize_t __wrap_pwrite(int fd, const void *bytes, size_t n, off_t at) {
 }
 
 int __wrap_fdatasync(int fd) {
+    static uint64_t calls;
     useconds_t slow = (useconds_t)from_environment("FILM_SLOW", 0);
     int done;
 
+    if (++calls == from_environment("FILM_BAD_SYNC", 0)) {
+        errno = EIO;
+        return -1;
+    }
     if (from_environment("FILM_TELL", 0))
         puts("sync");
     usleep(slow);
