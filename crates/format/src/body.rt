@@ -12,7 +12,7 @@ ghost use Rattle.byteorder.specs.Rate.{rateBits};
 ghost use Rattle.format.specs.Desc.{descBody};
 ghost use Rattle.format.specs.FormatAnswers.{descBytes};
 
-// The fields one behind the other, as `AudioFormat` declares them.
+// The fields one after the other, as `AudioFormat` declares them.
 fn fields(rate_bits: u64, format: AudioFormat) -> [u8; 32]
     requires { ⌜ «rate_bits» ≡ rateBits (format .«sample_rate») ⌝ }
     ensures { λ r. ⌜ r ≡ descBody format ⌝ }

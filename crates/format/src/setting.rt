@@ -11,7 +11,6 @@ use answers::DONE;
 use answers::PACKET_TOO_BIG;
 use byteorder::float::is_not_a_number;
 ghost use mathlib.Core.Path.{_≡_};
-ghost use Rattle.format.specs.Setting.{formatNumber};
 ghost use Rattle.format.specs.FormatAnswers.{pcmSetting, settingNumber};
 
 // `lpcm`, the format id of linear PCM.
@@ -53,17 +52,4 @@ pub fn setting_number(setting: PCMSetting) -> u32
         PCMSetting::Format(_) => DONE,
         PCMSetting::Refused(number) => number,
     }
-}
-
-// The number is the same for every type and order of the samples.
-pub fn format_number(rate: f64, channels: u32, bits: u32) -> u32
-    ensures { λ r. ⌜ r ≡ formatNumber rate channels bits ⌝ }
-{
-    setting_number(pcm_format(
-        rate,
-        channels,
-        bits,
-        PCMDataType::SignedInteger,
-        Endianness::BigEndian,
-    ))
 }
