@@ -15,7 +15,7 @@ use Rattle.reading.specs.Types.{'chan', 'desc', 'data', chunkHeaderSize, negati
 use Rattle.reading.specs.Step.{left, standsAt, sizeAt, bodyAt}
 use Rattle.reading.specs.Table.{fourAt}
 use Rattle.reading.specs.Grammar.{fileHeader, chunkHeader, chunk, OtherChunk, OthersAllowed, otherChunks, CafFile, Allowed, bytesOf}
-use Rattle.reading.proofs.Front.{behind-left, behind-four, behind-size, its-type, its-size, its-length}
+use Rattle.reading.proofs.Front.{after-left, after-four, after-size, its-type, its-size, its-length}
 use Rattle.reading.proofs.Sound.{sound}
 use Rattle.chan_reading.specs.First.{firstChan}
 use Rattle.chan_reading.specs.Find.{findStep, findFrom, findChan, bytesAt}
@@ -29,8 +29,8 @@ use Rattle.chan_reading.proofs.FindOn.{find-on}
 at-data : (pre tail : List ℕ) (size : ℕ) → findFrom (pre ++ (chunkHeader 'data' size ++ tail)) (length pre) ≡ Nowhere
 at-data pre tail size =
     let rest = chunkHeader 'data' size ++ tail in
-    let n = behind-left pre rest in
-    let t : standsAt (pre ++ rest) (length pre) 'data' ≡ true = ap (λ (x : List ℕ). exactly x 'data') (behind-four pre rest) in
+    let n = after-left pre rest in
+    let t : standsAt (pre ++ rest) (length pre) 'data' ≡ true = ap (λ (x : List ℕ). exactly x 'data') (after-four pre rest) in
     find-on (pre ++ rest) (length pre) ∙ rw (le-ltb (left (pre ++ rest) (length pre)) 12 (omega arith), t)
 
 -- a chunk that is neither the data nor too big for its size field
@@ -42,15 +42,15 @@ module _ (pre type body more : List ℕ) (four : length type ≡ 4) (not-data : 
   file = pre ++ there
 
   type-there : fourAt file (length pre) ≡ type
-  type-there = behind-four pre there ∙ its-type type body more four
+  type-there = after-four pre there ∙ its-type type body more four
 
   size-there : sizeAt file (length pre) ≡ length body
-  size-there = behind-size pre there ∙ its-size type body more four small
+  size-there = after-size pre there ∙ its-size type body more four small
 
   at-chunk : findFrom file (length pre) ≡ cond (exactly type 'chan') (At (bodyAt (length pre)) (length body)) (findFrom file (bodyAt (length pre) + length body))
   at-chunk =
       let l = its-length type body more four in
-      let n = behind-left pre there in
+      let n = after-left pre there in
       let d : standsAt file (length pre) 'data' ≡ false = ap (λ (x : List ℕ). exactly x 'data') type-there ∙ exactly-no type 'data' not-data in
       let c : standsAt file (length pre) 'chan' ≡ exactly type 'chan' = ap (λ (x : List ℕ). exactly x 'chan') type-there in
       find-on file (length pre)

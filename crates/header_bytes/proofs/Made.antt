@@ -37,7 +37,7 @@ layout-allowed Described ls h = (chan-allowed tag.UseChannelDescriptions ls (h r
 pub made-allowed : (isOpen : Bool) (f : AudioFormat) (layout : ChannelLayout) (ls audio : List ℕ)
     → Typed f → RateIsNumber f → (layout ≡ Described → length ls ≤ labelPlaces) → editSize + length audio < negative → Allowed (made isOpen f layout ls audio)
 made-allowed isOpen f layout ls audio t r l z =
-    record { typed = t; rate = r; others = layout-allowed layout ls l; edit = lit< tt; size = λ _. z; behind = tt; last = λ _. refl }
+    record { typed = t; rate = r; others = layout-allowed layout ls l; edit = lit< tt; size = λ _. z; after = tt; last = λ _. refl }
 
 pub made-accepted : MadeAccepted
 made-accepted isOpen f layout ls audio t r l z = strict-complete (made isOpen f layout ls audio) (made-allowed isOpen f layout ls audio t r l z)
