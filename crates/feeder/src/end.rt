@@ -21,11 +21,11 @@ ghost use Prim.Native.Nat.{_≤_};
 ghost use Rattle.feeder.specs.Record.{passedWithin, sound};
 ghost use Rattle.feeder.specs.End.{infoAt, headerEnd, chunkEnd, endOf, end};
 
-fn info_at(format: AudioFormat, size: usize, start: usize, after: usize) -> StrictInfo
+fn info_at(format: AudioFormat, size: u64, start: usize, after: usize) -> StrictInfo
     requires { ⌜ 12 ≤ start ⌝ }
     ensures { λ info. ⌜ info ≡ infoAt format size start after ⌝ }
 {
-    strict_info(format, size as u64, start - SIZE_TO_DATA, start, after)
+    strict_info(format, size, start - SIZE_TO_DATA, start, after)
 }
 
 // A chunk header that did not come whole.
@@ -54,7 +54,7 @@ fn chunk_end(
         DataChunk::Passed(size, start) => {
             if n == 0 {
                 return StrictAnswer::Accepted(
-                    info_at(format, size, start, size - EDIT_COUNT),
+                    info_at(format, size, start, size as usize - EDIT_COUNT),
                     chunks,
                 );
             }
@@ -78,10 +78,7 @@ fn end_of(r: Feeder) -> StrictAnswer
         Phase::Skipping(_, _, _) => StrictAnswer::Rejected(CUT_SHORT, r.chunks),
         Phase::Edit(_, _) => StrictAnswer::Rejected(CUT_SHORT, r.chunks),
         Phase::OpenData(format, start) => {
-            StrictAnswer::Accepted(
-                info_at(format, OPEN as usize, start, r.total - start),
-                r.chunks,
-            )
+            StrictAnswer::Accepted(info_at(format, OPEN, start, r.total - start), r.chunks)
         }
         Phase::ClosedData(_, _, _, _) => StrictAnswer::Rejected(DATA_PAST_END, r.chunks),
         Phase::Refused(number) => StrictAnswer::Rejected(number, r.chunks),

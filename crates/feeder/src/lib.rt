@@ -8,7 +8,7 @@ use format::AudioFormat;
 // The data chunk: still to come, or closed and passed over, with its size field and the position where the data start.
 pub enum DataChunk {
     Ahead,
-    Passed(usize, usize),
+    Passed(u64, usize),
 }
 
 // What the reader of blocks waits for.
@@ -24,11 +24,11 @@ pub enum Phase {
     // the rest of a body that is passed over: the format, the data chunk, and how many bytes are to come
     Skipping(AudioFormat, DataChunk, usize),
     // the 4 bytes of the edit count: the format, and the size field of the data chunk
-    Edit(AudioFormat, usize),
+    Edit(AudioFormat, u64),
     // the end, in open data: the format, and the position where the data start
     OpenData(AudioFormat, usize),
     // the rest of closed data: the format, the size field, the position where the data start, and how many bytes are to come
-    ClosedData(AudioFormat, usize, usize, usize),
+    ClosedData(AudioFormat, u64, usize, usize),
     // nothing any more: a refusal was met, with this number
     Refused(u32),
 }

@@ -83,13 +83,13 @@ fn headers_before(n: usize, bytes: usize, k: usize, format: AudioFormat) -> bool
     met_within(k, bytes - n)
 }
 
-fn is_closed_size(size: usize) -> bool
+fn is_closed_size(size: u64) -> bool
     ensures { λ b. ⌜ b ≡ isClosedSize size ⌝ }
 {
-    if size < EDIT_COUNT {
+    if size < EDIT_COUNT as u64 {
         return false;
     }
-    size < NEGATIVE as usize
+    size < NEGATIVE
 }
 
 // A data chunk that was passed lies after the first chunk and within the first n bytes.
@@ -108,7 +108,7 @@ fn passed_within(data: DataChunk, n: usize) -> bool
             if n < start {
                 return false;
             }
-            size - EDIT_COUNT <= n - start
+            size as usize - EDIT_COUNT <= n - start
         }
     }
 }
@@ -138,13 +138,13 @@ fn skipping_sound(total: usize, k: usize, format: AudioFormat, data: DataChunk, 
     left < NEGATIVE as usize
 }
 
-fn edit_sound(n: usize, total: usize, k: usize, format: AudioFormat, size: usize) -> bool
+fn edit_sound(n: usize, total: usize, k: usize, format: AudioFormat, size: u64) -> bool
     ensures { λ b. ⌜ b ≡ phaseSound n total k (feeder·Edit format size) ⌝ }
 {
     if !headers_before(n, total, k, format) {
         return false;
     }
-    !is_bad_data_size(size as u64)
+    !is_bad_data_size(size)
 }
 
 fn open_sound(total: usize, k: usize, format: AudioFormat, start: usize) -> bool
@@ -160,7 +160,7 @@ fn closed_sound(
     total: usize,
     k: usize,
     format: AudioFormat,
-    size: usize,
+    size: u64,
     start: usize,
     left: usize,
 ) -> bool
@@ -175,10 +175,10 @@ fn closed_sound(
     if left < 1 {
         return false;
     }
-    if size - EDIT_COUNT < left {
+    if size as usize - EDIT_COUNT < left {
         return false;
     }
-    total - start == size - EDIT_COUNT - left
+    total - start == size as usize - EDIT_COUNT - left
 }
 
 fn refused_sound(total: usize, k: usize, number: u32) -> bool

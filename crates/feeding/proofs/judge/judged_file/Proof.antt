@@ -15,11 +15,11 @@ stands-at-requires-2 c κs = search needs
 
 returns-2 : tie.Need-returns-2
 unfolding judged
-returns-2 c = rw (← c .before .before .before .before .before .stands-at .ensures, c .before .before .before .before .if1 .left, ← c .before .stands-at2 .ensures, c .if2 .taken)
+returns-2 c = rw (← c .before .before .before .stands-at .ensures, c .before .before .if1 .left, ← c .before .stands-at2 .ensures, c .if2 .taken)
 
 returns-3 : tie.Need-returns-3
 unfolding judged
-returns-3 c = rw (← c .before .before .before .before .before .stands-at .ensures, c .before .before .before .before .if1 .left, ← c .before .stands-at2 .ensures, c .if2 .left)
+returns-3 c = rw (← c .before .before .before .stands-at .ensures, c .before .before .if1 .left, ← c .before .stands-at2 .ensures, c .if2 .left)
 
 pub judged-file-spec : {M : Type 1} → statement M
 judged-file-spec =
