@@ -50,7 +50,7 @@ fn after_data(numbers: &[u64], kind: u64, format: AudioFormat) -> Phase
     requires { ⌜ length (now numbers) ≡ feederPlaces ⌝ }
     ensures { λ phase. ⌜ phase ≡ afterData (now (numbers .entry)) kind format ⌝ }
 {
-    let size = numbers[SIZE] as usize;
+    let size = numbers[SIZE];
     let start = numbers[START] as usize;
     if kind == 8 {
         return Phase::Header(format, DataChunk::Passed(size, start));
@@ -87,7 +87,7 @@ fn phase_of(numbers: &[u64]) -> Phase
         return Phase::Skipping(format, DataChunk::Ahead, numbers[NUMBER] as usize);
     }
     if kind == 5 {
-        return Phase::Edit(format, numbers[SIZE] as usize);
+        return Phase::Edit(format, numbers[SIZE]);
     }
     if kind == 6 {
         return Phase::OpenData(format, numbers[START] as usize);

@@ -78,7 +78,7 @@ fn passed_size(data: DataChunk) -> u64
 {
     match data {
         DataChunk::Ahead => 0,
-        DataChunk::Passed(size, _) => size as u64,
+        DataChunk::Passed(size, _) => size,
     }
 }
 
@@ -91,9 +91,9 @@ fn phase_size(phase: Phase) -> u64
         Phase::Desc => 0,
         Phase::Header(_, data) => passed_size(data),
         Phase::Skipping(_, data, _) => passed_size(data),
-        Phase::Edit(_, size) => size as u64,
+        Phase::Edit(_, size) => size,
         Phase::OpenData(_, _) => 0,
-        Phase::ClosedData(_, size, _, _) => size as u64,
+        Phase::ClosedData(_, size, _, _) => size,
         Phase::Refused(_) => 0,
     }
 }
