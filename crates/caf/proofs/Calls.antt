@@ -1,10 +1,10 @@
 -- A call on an array: refused where the array stands for no record, else the writer's own call with its answer kept.
 use mathlib.Core.Path.{_≡_, refl, sym, _∙_, ap}
-use mathlib.Core.Bool.{true, false}
+use mathlib.Core.Bool.{true, false, not}
 use mathlib.Core.List.{List, []}
 use Prim.Native.Nat.{ℕ, zero, suc, _<_, _≤_}
 use lib.ListN.{length, take}
-use borrow.Author.Tests.{lt-ltb, le-ltb}
+use borrow.Author.Tests.{lt-ltb, le-ltb, not-true, not-false}
 use Rattle.answers.specs.Numbers.{badWriter, noRoom}
 use Rattle.byteorder.specs.Splice.{splice}
 use Rattle.byteorder.proofs.Laws.{splice-nil}
@@ -13,8 +13,18 @@ use Rattle.writer.specs.Outcome.{Outcome, unchanged, answer, bufferAfter, buffe
 use Rattle.writer.specs.declared.CAFWriter.{CAFWriter}
 use Rattle.writer.specs.declared.Wrote.{Wrote}
 use Rattle.writer.specs.declared.Counted.{Counted}
-use Rattle.caf.specs.RecordNumbers.{isRecord, recordOf}
+use Rattle.record_numbers.specs.RecordNumbers.{isRecord, recordOf, heldRecord}
+use Rattle.record_numbers.specs.declared.HeldRecord.{HeldRecord}
 use Rattle.caf.specs.RecordCalls.{callOn, recordAfter, Called, Set, countedPlaces, countedNumbers, noCount, countedOn, CountedCall}
+
+-- what an array holds, and the test of it
+pub none-held : (held : List ℕ) {k : HeldRecord} → k ≡ heldRecord held → not (k .stands) ≡ true → isRecord held ≡ false
+none-held held e n = sym (ap (λ (x : HeldRecord). x .stands) e) ∙ not-true _ n
+
+pub record-held : (held : List ℕ) {k : HeldRecord} → k ≡ heldRecord held → not (k .stands) ≡ false → (isRecord held ≡ true) × (k .writer ≡ recordOf held)
+record-held held e n =
+    let s : isRecord held ≡ true = sym (ap (λ (x : HeldRecord). x .stands) e) ∙ not-false _ n in
+    (s, ap (λ (x : HeldRecord). x .writer) e ∙ rw s)
 
 module _ (held : List ℕ) (call : CAFWriter → Outcome) where
   on-none : isRecord held ≡ false → callOn held call ≡ unchanged badWriter fresh

@@ -1,10 +1,2 @@
-pub mod FormatLaws
-pub mod RatePatterns
-pub mod Words
-pub mod Records
-pub mod Puts
 pub mod Calls
-pub mod Feeders
-pub mod FeederTyped
-pub mod FedThrough
-pub mod RecordBack
+pub mod Told

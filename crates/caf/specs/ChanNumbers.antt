@@ -13,7 +13,7 @@ use Rattle.chan_reading.specs.declared.ChanAnswer.{ChanAnswer}
 use Rattle.chan_reading.specs.declared.ChanAnswer.the-variants.{Given, Refused}
 use Rattle.chan_reading.specs.declared.ChanPlace.{ChanPlace}
 use Rattle.chan_reading.specs.declared.ChanPlace.the-variants.{At, Nowhere}
-use Rattle.caf.specs.Lent.{numberGiven, lentAfter}
+use Rattle.numbers.specs.Lent.{numberGiven, lentAfter}
 
 -- the reader's answer: its number, and its other numbers, none for a refusal. The order is its count and as many places as a row has
 abbrev pub readNumber : ChanAnswer → ℕ

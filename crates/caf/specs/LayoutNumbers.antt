@@ -2,7 +2,7 @@
 use Prim.Native.Nat.{ℕ}
 use mathlib.Core.List.{List, [], _∷_}
 use Rattle.layout.specs.declared.ChannelLayout.{ChannelLayout}
-use Rattle.caf.specs.RecordNumbers.{layoutKind, layoutTag}
+use Rattle.record_numbers.specs.RecordNumbers.{layoutKind, layoutTag}
 
 abbrev pub layoutPlaces : ℕ
 layoutPlaces = 2

@@ -1,12 +1,5 @@
-pub mod Lent
-pub mod FormatNumbers
 pub mod ReadingNumbers
-pub mod RecordNumbers
 pub mod LayoutNumbers
 pub mod ChanNumbers
 pub mod RecordCalls
 pub mod RecordMade
-pub mod FeederNumbers
-pub mod FeederCalls
-pub mod FeederClaims
-pub mod RecordClaims

@@ -5,7 +5,7 @@ use Rattle.reading.specs.declared.PlainAnswer.{PlainAnswer}
 use Rattle.reading.specs.declared.PlainAnswer.the-variants.{Found, NotRead}
 use Rattle.reading.specs.declared.StrictAnswer.{StrictAnswer}
 use Rattle.reading.specs.declared.StrictAnswer.the-variants.{Accepted, Rejected}
-use Rattle.caf.specs.FormatNumbers.{flagNumber, audioNumbers, formatNumbers, orderNumber}
+use Rattle.numbers.specs.FormatNumbers.{flagNumber, audioNumbers, formatNumbers, orderNumber}
 
 -- 01, Numbers given back: a refused reading has its count and nothing else
 abbrev pub plainNumbers : PlainAnswer → List ℕ

@@ -11,14 +11,14 @@ use Rattle.writer.specs.Outcome.{Outcome, unchanged, answer, bufferAfter, buffe
 use Rattle.writer.specs.declared.CAFWriter.{CAFWriter}
 use Rattle.writer.specs.declared.Wrote.{Wrote}
 use Rattle.writer.specs.declared.Counted.{Counted}
-use Rattle.caf.specs.Lent.{numberGiven, lentAfter}
-use Rattle.caf.specs.RecordNumbers.{isRecord, recordOf, recordNumbers}
+use Rattle.numbers.specs.Lent.{numberGiven, lentAfter}
+use Rattle.record_numbers.specs.RecordNumbers.{isRecord, recordOf, recordNumbers}
 
 -- the call on the record that the array stands for. An array that stands for none is unsound (BadWriter)
 unfoldable pub callOn : List ℕ → (CAFWriter → Outcome) → Outcome
 callOn ns call = cond (isRecord ns) (call (recordOf ns)) (unchanged badWriter fresh)
 
--- the array behind an answer: the next record, or every number as it was where the call is refused
+-- the array after an answer: the next record, or every number as it was where the call is refused
 unfoldable pub recordAfter : List ℕ → Wrote → List ℕ
 recordAfter ns wrote = cond (eqb (wrote .number) done) (recordNumbers (wrote .writer)) ns
 

@@ -1,14 +1,12 @@
 // The strict reading of a film that comes in blocks, for C. `held` is the array that keeps the record.
-use crate::feeder_from::FEEDER_PLACES;
-use crate::feeder_from::feeder_of;
-use crate::feeder_from::is_feeder;
-use crate::feeder_to::feeder_numbers;
-use crate::numbers::put;
 use crate::readings::STRICT_PLACES;
 use crate::readings::tell_strict;
 use answers::BAD_WRITER;
 use answers::DONE;
 use answers::NO_ROOM;
+use feeder_numbers::feeder_from_numbers::feeder_in;
+use feeder_numbers::feeder_to_numbers::put_feeder;
+use feeder_numbers::places::FEEDER;
 use feeder::end::end;
 use feeding::feed::feed;
 use feeding::feed::fresh;
@@ -16,18 +14,17 @@ use reading::StrictAnswer;
 ghost use mathlib.Core.Path.{_≡_};
 ghost use Rattle.reading.specs.Answers.{strictNumber};
 ghost use Rattle.caf.specs.ReadingNumbers.{strictPlaces, strictNumbers};
-ghost use Rattle.caf.specs.Lent.{numberGiven, lentAfter};
-ghost use Rattle.caf.specs.FeederCalls.{beginNumber, beginRecord, FeedCall, endOn};
+ghost use Rattle.numbers.specs.Lent.{numberGiven, lentAfter};
+ghost use Rattle.feeder_numbers.specs.FeederCalls.{beginNumber, beginRecord, FeedCall, endOn};
 
 #[no_mangle]
 pub extern "C" fn caf_feed_begin(held: &mut [u64]) -> u32
     ensures { λ r. ⌜ (r ≡ beginNumber (now (held .entry))) × (now (held .exit) ≡ beginRecord (now (held .entry))) ⌝ }
 {
-    if held.len() != FEEDER_PLACES {
+    if held.len() != FEEDER {
         return BAD_WRITER;
     }
-    let numbers = feeder_numbers(fresh());
-    put(held, 0, &numbers);
+    put_feeder(held, fresh());
     DONE
 }
 
@@ -35,27 +32,30 @@ pub extern "C" fn caf_feed_begin(held: &mut [u64]) -> u32
 pub extern "C" fn caf_feed(held: &mut [u64], block: &[u8]) -> u32
     ensures { λ r. ⌜ FeedCall (now (held .entry)) (now (block .entry)) r (now (held .exit)) ⌝ }
 {
-    if !is_feeder(held) {
+    let kept = feeder_in(held);
+    if !kept.stands {
         return BAD_WRITER;
     }
-    let fed = feed(feeder_of(held), block);
+    let feeder = kept.feeder;
+    let fed = feed(feeder, block);
     let number = fed.number;
     if number == BAD_WRITER {
         return number;
     }
-    let feeder = fed.feeder;
-    let numbers = feeder_numbers(feeder);
-    put(held, 0, &numbers);
+    let next = fed.feeder;
+    put_feeder(held, next);
     number
 }
 
 fn end_on(held: &[u64]) -> StrictAnswer
     ensures { λ answer. ⌜ answer ≡ endOn (now (held .entry)) ⌝ }
 {
-    if !is_feeder(held) {
+    let kept = feeder_in(held);
+    if !kept.stands {
         return StrictAnswer::Rejected(BAD_WRITER, 0);
     }
-    end(feeder_of(held))
+    let feeder = kept.feeder;
+    end(feeder)
 }
 
 #[no_mangle]

@@ -1,6 +1,4 @@
 // The layout that a file says, for C: its `chan` found and read.
-use crate::numbers::put;
-use crate::numbers::put_labels;
 use answers::DONE;
 use answers::NO_ROOM;
 use chan_reading::ChanAnswer;
@@ -10,6 +8,8 @@ use chan_reading::ChanRead;
 use chan_reading::describe::read_chan;
 use chan_reading::find::find_chan;
 use layout::NamedOrder;
+use numbers::lent_numbers::put;
+use numbers::lent_numbers::put_words;
 ghost use mathlib.Core.Path.{_≡_};
 ghost use Prim.Native.Nat.{_≤_};
 ghost use lib.ListN.{length};
@@ -17,11 +17,17 @@ ghost use Rattle.answers.specs.Numbers.{done};
 ghost use Rattle.byteorder.specs.Splice.{splice};
 ghost use Rattle.chan_reading.specs.Find.{findChan};
 ghost use Rattle.chan_reading.specs.declared.ChanAnswer.the-variants.{Given as answer·Given};
-ghost use Rattle.caf.specs.Lent.{numberGiven, lentAfter};
+ghost use Rattle.numbers.specs.Lent.{numberGiven, lentAfter};
 ghost use Rattle.caf.specs.ChanNumbers.{readNumber, readNumbers, readPlaces, ReadCall, placeNumbers, placePlaces};
+
+// The places of what a `chan` says: its tag and the three numbers after it, and the order that the tag stands for.
+const SAID_TAG: usize = 0;
+
+const SAID_ORDER: usize = 4;
 
 const READ_PLACES: usize = 12;
 
+// Whether there is one, its start and its size.
 const PLACE_PLACES: usize = 3;
 
 fn put_given(answer: &mut [u64], head: ChanHead, order: NamedOrder)
@@ -34,9 +40,9 @@ fn put_given(answer: &mut [u64], head: ChanHead, order: NamedOrder)
         head.count as u64,
         order.count as u64,
     ];
-    put(answer, 0, &numbers);
+    put(answer, SAID_TAG, &numbers);
     let labels = order.labels;
-    put_labels(answer, 4, &labels);
+    put_words(answer, SAID_ORDER, &labels);
 }
 
 fn tell_read(answer: &mut [u64], read: ChanRead) -> u32

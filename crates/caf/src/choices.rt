@@ -2,7 +2,7 @@
 use format::Endianness;
 use format::PCMDataType;
 ghost use mathlib.Core.Path.{_≡_};
-ghost use Rattle.caf.specs.FormatNumbers.{byteOrder, sampleType};
+ghost use Rattle.numbers.specs.FormatNumbers.{byteOrder, sampleType};
 
 pub(crate) fn byte_order(little_endian: bool) -> Endianness
     ensures { λ r. ⌜ r ≡ byteOrder «little_endian» ⌝ }

@@ -1,10 +1,9 @@
 // The counted forms, for C: the first n stores of a call. The record in `held` is only read; how many stores were done and the length of
 // the file go to `out`.
-use crate::from_numbers::is_record;
-use crate::from_numbers::record_of;
-use crate::numbers::put;
 use answers::BAD_WRITER;
 use answers::NO_ROOM;
+use numbers::lent_numbers::put;
+use record_numbers::record_from_numbers::record_in;
 use writer::Counted;
 ghost use mathlib.Core.Path.{_≡_};
 ghost use Prim.Native.Nat.{_≤_};
@@ -48,10 +47,11 @@ pub extern "C" fn caf_write_header_counted(
     if out.len() < COUNTED_PLACES {
         return NO_ROOM;
     }
-    if !is_record(held) {
+    let kept = record_in(held);
+    if !kept.stands {
         return tell(out, no_count());
     }
-    let writer = record_of(held);
+    let writer = kept.writer;
     let done = writer.write_header_counted(buf, n as usize);
     tell(out, done)
 }
@@ -69,10 +69,11 @@ pub extern "C" fn caf_write_data_counted(
     if out.len() < COUNTED_PLACES {
         return NO_ROOM;
     }
-    if !is_record(held) {
+    let kept = record_in(held);
+    if !kept.stands {
         return tell(out, no_count());
     }
-    let writer = record_of(held);
+    let writer = kept.writer;
     let done = writer.write_data_counted(buf, bytes, n as usize);
     tell(out, done)
 }
@@ -90,10 +91,11 @@ pub extern "C" fn caf_write_samples_counted(
     if out.len() < COUNTED_PLACES {
         return NO_ROOM;
     }
-    if !is_record(held) {
+    let kept = record_in(held);
+    if !kept.stands {
         return tell(out, no_count());
     }
-    let writer = record_of(held);
+    let writer = kept.writer;
     let done = writer.write_pcm_24bit_as_packed_counted(buf, samples, n as usize);
     tell(out, done)
 }
@@ -105,10 +107,11 @@ pub extern "C" fn caf_finish_counted(held: &[u64], buf: &mut [u8], n: u64, out: 
     if out.len() < COUNTED_PLACES {
         return NO_ROOM;
     }
-    if !is_record(held) {
+    let kept = record_in(held);
+    if !kept.stands {
         return tell(out, no_count());
     }
-    let writer = record_of(held);
+    let writer = kept.writer;
     let done = writer.finish_counted(buf, n as usize);
     tell(out, done)
 }

@@ -1,10 +1,10 @@
 // The answer of a call, and the array that keeps the record.
-use crate::to_numbers::put_record;
 use answers::DONE;
+use record_numbers::record_to_numbers::put_record;
 use writer::Wrote;
 ghost use mathlib.Core.Path.{_≡_};
 ghost use lib.ListN.{length};
-ghost use Rattle.caf.specs.RecordNumbers.{recordPlaces};
+ghost use Rattle.record_numbers.specs.RecordNumbers.{recordPlaces};
 ghost use Rattle.caf.specs.RecordCalls.{recordAfter};
 
 pub(crate) fn keep(held: &mut [u64], wrote: Wrote) -> u32

@@ -1,14 +1,14 @@
 // The layout for labels, for C.
-use crate::numbers::put;
-use crate::to_numbers::layout_kind;
-use crate::to_numbers::layout_tag;
 use answers::DONE;
 use answers::NO_ROOM;
 use layout::search::layout_for;
+use numbers::lent_numbers::put;
+use record_numbers::record_to_numbers::layout_kind;
+use record_numbers::record_to_numbers::layout_tag;
 ghost use mathlib.Core.Path.{_≡_};
 ghost use Rattle.answers.specs.Numbers.{done};
 ghost use Rattle.layout.specs.Search.{layoutFor};
-ghost use Rattle.caf.specs.Lent.{numberGiven, lentAfter};
+ghost use Rattle.numbers.specs.Lent.{numberGiven, lentAfter};
 ghost use Rattle.caf.specs.LayoutNumbers.{layoutPlaces, layoutNumbers};
 
 const LAYOUT_PLACES: usize = 2;

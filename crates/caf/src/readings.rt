@@ -1,11 +1,11 @@
 // The two readings, for C: the answer's number is returned, its other numbers go to a lent array.
-use crate::format_numbers::audio_numbers;
-use crate::format_numbers::format_numbers;
-use crate::format_numbers::order_number;
-use crate::numbers::flag;
-use crate::numbers::put;
 use answers::DONE;
 use answers::NO_ROOM;
+use numbers::format_to_numbers::audio_numbers;
+use numbers::format_to_numbers::format_numbers;
+use numbers::format_to_numbers::order_number;
+use numbers::lent_numbers::flag;
+use numbers::lent_numbers::put;
 use reading::CAFFileInfo;
 use reading::PlainAnswer;
 use reading::StrictAnswer;
@@ -22,9 +22,21 @@ ghost use Rattle.reading.specs.Strict.{strict};
 ghost use Rattle.reading.specs.declared.PlainAnswer.the-variants.{Found as plain·Found};
 ghost use Rattle.reading.specs.declared.StrictAnswer.the-variants.{Accepted as strict·Accepted};
 ghost use Rattle.caf.specs.ReadingNumbers.{plainPlaces, strictPlaces, plainNumbers, strictNumbers};
-ghost use Rattle.caf.specs.Lent.{numberGiven, lentAfter};
+ghost use Rattle.numbers.specs.Lent.{numberGiven, lentAfter};
+
+// The places of the answers' numbers: of both the count of chunk headers met; of the plain reading whether there is a format, before
+// its seven numbers, and the byte order and what follows; of the strict one the rate, before the six others, and what follows them.
+const CHUNKS: usize = 0;
+
+const PLAIN_HAS_FORMAT: usize = 1;
+
+const PLAIN_ENDIANNESS: usize = 9;
 
 const PLAIN_PLACES: usize = 12;
+
+const STRICT_RATE: usize = 1;
+
+const STRICT_SIZE_POSITION: usize = 8;
 
 pub(crate) const STRICT_PLACES: usize = 13;
 
@@ -33,17 +45,17 @@ fn put_found(out: &mut [u64], info: CAFFileInfo, chunks: usize)
     ensures { λ _. ⌜ now (out .exit) ≡ splice (now (out .entry)) 0 (plainNumbers (plain·Found info chunks)) ⌝ }
 {
     let count = [chunks as u64];
-    put(out, 0, &count);
+    put(out, CHUNKS, &count);
     let format = info.format;
     let numbers = format_numbers(format);
-    put(out, 1, &numbers);
+    put(out, PLAIN_HAS_FORMAT, &numbers);
     let endianness = info.endianness;
     let places = [
         order_number(endianness),
         info.size_position as u64,
         info.data_start as u64,
     ];
-    put(out, 9, &places);
+    put(out, PLAIN_ENDIANNESS, &places);
 }
 
 fn put_accepted(out: &mut [u64], info: StrictInfo, chunks: usize)
@@ -51,9 +63,9 @@ fn put_accepted(out: &mut [u64], info: StrictInfo, chunks: usize)
     ensures { λ _. ⌜ now (out .exit) ≡ splice (now (out .entry)) 0 (strictNumbers (strict·Accepted info chunks)) ⌝ }
 {
     let count = [chunks as u64];
-    put(out, 0, &count);
+    put(out, CHUNKS, &count);
     let numbers = audio_numbers(info.format);
-    put(out, 1, &numbers);
+    put(out, STRICT_RATE, &numbers);
     let places = [
         info.size_position as u64,
         info.data_start as u64,
@@ -61,7 +73,7 @@ fn put_accepted(out: &mut [u64], info: StrictInfo, chunks: usize)
         flag(info.open),
         info.frames as u64,
     ];
-    put(out, 8, &places);
+    put(out, STRICT_SIZE_POSITION, &places);
 }
 
 // A strict answer: its number is given back, its other numbers go to the array.
@@ -72,7 +84,7 @@ pub(crate) fn tell_strict(out: &mut [u64], answer: StrictAnswer) -> u32
     match answer {
         StrictAnswer::Rejected(number, chunks) => {
             let count = [chunks as u64];
-            put(out, 0, &count);
+            put(out, CHUNKS, &count);
             number
         }
         StrictAnswer::Accepted(info, chunks) => {
@@ -94,7 +106,7 @@ pub extern "C" fn caf_parse(file: &[u8], out: &mut [u64]) -> u32
     match answer {
         PlainAnswer::NotRead(number, chunks) => {
             let count = [chunks as u64];
-            put(out, 0, &count);
+            put(out, CHUNKS, &count);
             number
         }
         PlainAnswer::Found(info, chunks) => {

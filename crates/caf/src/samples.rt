@@ -6,7 +6,7 @@ ghost use mathlib.Core.Path.{_≡_};
 ghost use lib.ListN.{length};
 ghost use Rattle.pcm.specs.Packing.{packNumber, packInto};
 ghost use Rattle.pcm.specs.Unpacking.{unpackNumber, unpackInto};
-ghost use Rattle.caf.specs.FormatNumbers.{byteOrder};
+ghost use Rattle.numbers.specs.FormatNumbers.{byteOrder};
 
 #[no_mangle]
 pub extern "C" fn caf_pack_24(samples: &[i32], little_endian: bool, out: &mut [u8]) -> u32

@@ -1,12 +1,11 @@
 // The settings, for C. `held` is the array that keeps the record.
 use crate::choices::byte_order;
 use crate::choices::sample_type;
-use crate::from_numbers::is_record;
-use crate::from_numbers::record_of;
 use crate::kept::keep;
 use answers::BAD_WRITER;
+use record_numbers::record_from_numbers::record_in;
 ghost use Rattle.writer.specs.Settings.{formatCall, tagCall, labelsCall, configureCall};
-ghost use Rattle.caf.specs.FormatNumbers.{byteOrder, sampleType};
+ghost use Rattle.numbers.specs.FormatNumbers.{byteOrder, sampleType};
 ghost use Rattle.caf.specs.RecordCalls.{callOn, Set};
 
 #[no_mangle]
@@ -20,10 +19,11 @@ pub extern "C" fn caf_set_format(
 ) -> u32
     ensures { λ r. ⌜ Set (now (held .entry)) (callOn (now (held .entry)) (λ w. formatCall w rate channels bits (sampleType «is_float») (byteOrder «little_endian»))) r (now (held .exit)) ⌝ }
 {
-    if !is_record(held) {
+    let kept = record_in(held);
+    if !kept.stands {
         return BAD_WRITER;
     }
-    let writer = record_of(held);
+    let writer = kept.writer;
     let data_type = sample_type(is_float);
     let endianness = byte_order(little_endian);
     let wrote = writer.set_audio_format_with_options(rate, channels, bits, data_type, endianness);
@@ -34,10 +34,11 @@ pub extern "C" fn caf_set_format(
 pub extern "C" fn caf_set_layout_tag(held: &mut [u64], tag: u32) -> u32
     ensures { λ r. ⌜ Set (now (held .entry)) (callOn (now (held .entry)) (λ w. tagCall w tag)) r (now (held .exit)) ⌝ }
 {
-    if !is_record(held) {
+    let kept = record_in(held);
+    if !kept.stands {
         return BAD_WRITER;
     }
-    let writer = record_of(held);
+    let writer = kept.writer;
     let wrote = writer.set_channel_layout_tag(tag);
     keep(held, wrote)
 }
@@ -46,10 +47,11 @@ pub extern "C" fn caf_set_layout_tag(held: &mut [u64], tag: u32) -> u32
 pub extern "C" fn caf_set_layout_for_labels(held: &mut [u64], labels: &[u32], channels: u32) -> u32
     ensures { λ r. ⌜ Set (now (held .entry)) (callOn (now (held .entry)) (λ w. labelsCall w (now (labels .entry)) channels)) r (now (held .exit)) ⌝ }
 {
-    if !is_record(held) {
+    let kept = record_in(held);
+    if !kept.stands {
         return BAD_WRITER;
     }
-    let writer = record_of(held);
+    let writer = kept.writer;
     let wrote = writer.set_channel_layout_for_labels(labels, channels);
     keep(held, wrote)
 }
@@ -64,10 +66,11 @@ pub extern "C" fn caf_configure_format(
 ) -> u32
     ensures { λ r. ⌜ Set (now (held .entry)) (callOn (now (held .entry)) (λ w. configureCall w rate channels bits (now (labels .entry)))) r (now (held .exit)) ⌝ }
 {
-    if !is_record(held) {
+    let kept = record_in(held);
+    if !kept.stands {
         return BAD_WRITER;
     }
-    let writer = record_of(held);
+    let writer = kept.writer;
     let wrote = writer.configure_audio_format(rate, channels, bits, labels);
     keep(held, wrote)
 }

@@ -1,8 +1,7 @@
 // The writer's calls on a buffer, for C. `held` is the array that keeps the record.
-use crate::from_numbers::is_record;
-use crate::from_numbers::record_of;
 use crate::kept::keep;
 use answers::BAD_WRITER;
+use record_numbers::record_from_numbers::record_in;
 ghost use lib.ListN.{length};
 ghost use Rattle.writer.specs.Header.{headerCall};
 ghost use Rattle.writer.specs.Data.{dataCall, samplesCall};
@@ -13,10 +12,11 @@ ghost use Rattle.caf.specs.RecordCalls.{callOn, Called};
 pub extern "C" fn caf_write_header(held: &mut [u64], buf: &mut [u8]) -> u32
     ensures { λ r. ⌜ Called (now (held .entry)) (now (buf .entry)) (callOn (now (held .entry)) (λ w. headerCall w (length (now (buf .entry))))) r (now (held .exit)) (now (buf .exit)) ⌝ }
 {
-    if !is_record(held) {
+    let kept = record_in(held);
+    if !kept.stands {
         return BAD_WRITER;
     }
-    let writer = record_of(held);
+    let writer = kept.writer;
     let wrote = writer.write_header(buf);
     keep(held, wrote)
 }
@@ -25,10 +25,11 @@ pub extern "C" fn caf_write_header(held: &mut [u64], buf: &mut [u8]) -> u32
 pub extern "C" fn caf_write_data(held: &mut [u64], buf: &mut [u8], bytes: &[u8]) -> u32
     ensures { λ r. ⌜ Called (now (held .entry)) (now (buf .entry)) (callOn (now (held .entry)) (λ w. dataCall w (length (now (buf .entry))) (now (bytes .entry)))) r (now (held .exit)) (now (buf .exit)) ⌝ }
 {
-    if !is_record(held) {
+    let kept = record_in(held);
+    if !kept.stands {
         return BAD_WRITER;
     }
-    let writer = record_of(held);
+    let writer = kept.writer;
     let wrote = writer.write_data(buf, bytes);
     keep(held, wrote)
 }
@@ -37,10 +38,11 @@ pub extern "C" fn caf_write_data(held: &mut [u64], buf: &mut [u8], bytes: &[u8])
 pub extern "C" fn caf_write_samples(held: &mut [u64], buf: &mut [u8], samples: &[i32]) -> u32
     ensures { λ r. ⌜ Called (now (held .entry)) (now (buf .entry)) (callOn (now (held .entry)) (λ w. samplesCall w (length (now (buf .entry))) (now (samples .entry)))) r (now (held .exit)) (now (buf .exit)) ⌝ }
 {
-    if !is_record(held) {
+    let kept = record_in(held);
+    if !kept.stands {
         return BAD_WRITER;
     }
-    let writer = record_of(held);
+    let writer = kept.writer;
     let wrote = writer.write_pcm_24bit_as_packed(buf, samples);
     keep(held, wrote)
 }
@@ -49,10 +51,11 @@ pub extern "C" fn caf_write_samples(held: &mut [u64], buf: &mut [u8], samples: &
 pub extern "C" fn caf_finish(held: &mut [u64], buf: &mut [u8]) -> u32
     ensures { λ r. ⌜ Called (now (held .entry)) (now (buf .entry)) (callOn (now (held .entry)) (λ w. finishCall w (length (now (buf .entry))))) r (now (held .exit)) (now (buf .exit)) ⌝ }
 {
-    if !is_record(held) {
+    let kept = record_in(held);
+    if !kept.stands {
         return BAD_WRITER;
     }
-    let writer = record_of(held);
+    let writer = kept.writer;
     let wrote = writer.finish(buf);
     keep(held, wrote)
 }

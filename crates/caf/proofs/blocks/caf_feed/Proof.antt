@@ -1,23 +1,20 @@
-use Rattle.caf.proofs.Feeders.{is-feeder, kept-whole, none-fed, unsound-fed, was-fed}
+use Rattle.feeder_numbers.proofs.Feeders.{is-feeder, none-feeder, feeder-held, none-fed, unsound-fed, was-fed}
 use Rattle.feeder.specs.declared.Feeder.{Feeder}
 use Rattle.feeding.specs.Feed.{feed}
-use borrow.Author.Tests.{not-true, not-false}
-use mathlib.Core.Path.{sym, _∙_, ap}
+use mathlib.Core.Path.{_∙_, ap}
+use borrow.Author.Tests.{eq-eqb}
 use borrow.Author.Needs.{needs}
 use Rattle.caf.proofs.blocks.caf_feed.Statement.{statement}
 use Rattle.caf.proofs.blocks.caf_feed.Tie as tie
 
-is-feeder-requires : tie.Need-is-feeder-requires
-is-feeder-requires c κs = search needs
+feeder-in-requires : tie.Need-feeder-in-requires
+feeder-in-requires c κs = search needs
 
 same-length : tie.Need-same-length
 same-length c = search needs
 
 returns : tie.Need-returns
-returns c = none-fed (c .before .before .before .before .before .args .held .now) (c .before .before .before .before .before .args .block .now) (sym (c .before .is-feeder .ensures) ∙ not-true _ (c .if1 .taken))
-
-feeder-of-requires : tie.Need-feeder-of-requires
-feeder-of-requires c κs = sym (c .before .before .is-feeder .ensures) ∙ not-false _ (c .before .if1 .left)
+returns c = none-fed (c .before .before .before .before .before .before .args .held .now) (c .before .before .before .before .before .before .args .block .now) (none-feeder _ (c .before .before .feeder-in .ensures) (c .if1 .taken))
 
 feed-requires : tie.Need-feed-requires
 feed-requires c κs = search needs
@@ -26,36 +23,24 @@ same-length-2 : tie.Need-same-length-2
 same-length-2 c = search needs
 
 returns-2 : tie.Need-returns-2
-returns-2 c = let a = c .before .before .before .before .before .before .before .before .before .args in unsound-fed (a .held .now) (a .block .now) (sym (c .before .before .before .before .before .is-feeder .ensures) ∙ not-false _ (c .before .before .before .before .if1 .left)) _ (c .before .feed .ensures ∙ ap (λ (r : Feeder). feed r (a .block .now)) (c .before .before .feeder-of .ensures)) (c .if2 .taken)
+returns-2 c =
+    let a = c .before .before .before .before .before .before .before .before .before .args in
+    let k = feeder-held (a .held .now) (c .before .before .before .before .before .feeder-in .ensures) (c .before .before .before .if1 .left) in
+    let e = c .before .feed .ensures ∙ ap (λ (r : Feeder). feed r (a .block .now)) (k .1) in
+    unsound-fed (a .held .now) (a .block .now) (k .0) _ e (c .if2 .taken)
 
-feeder-numbers-requires : tie.Need-feeder-numbers-requires
-feeder-numbers-requires c κs = search needs
-
-slice-aggregate-put : tie.Need-slice-aggregate-put
-slice-aggregate-put c = search needs
-
-put-requires : tie.Need-put-requires
-put-requires c κs = let p = is-feeder _ (sym (c .before .before .before .before .before .before .before .before .before .is-feeder .ensures) ∙ not-false _ (c .before .before .before .before .before .before .before .before .if1 .left)) .places in search (needs, p)
+put-feeder-requires : tie.Need-put-feeder-requires
+put-feeder-requires c κs = search needs
 
 same-length-3 : tie.Need-same-length-3
 same-length-3 c = search needs
 
 returns-3 : tie.Need-returns-3
-returns-3 c = let a = c .before .before .before .before .before .before .before .before .before .before .before .before .before .before .before .before .args in let e = sym (c .before .before .before .before .before .before .before .before .before .before .before .before .is-feeder .ensures) ∙ not-false _ (c .before .before .before .before .before .before .before .before .before .before .before .if1 .left) in was-fed (a .held .now) (a .block .now) e _ (c .before .before .before .before .before .before .before .before .feed .ensures ∙ ap (λ (r : Feeder). feed r (a .block .now)) (c .before .before .before .before .before .before .before .before .before .feeder-of .ensures)) _ (c .before .before .before .before .before .before .before .if2 .left) (kept-whole (a .held .now) _ _ (is-feeder _ e .places) (c .before .before .before .before .before .feeder-numbers .ensures) (c .before .before .put .ensures))
+returns-3 c =
+    let a = c .before .before .before .before .before .before .before .before .before .before .before .before .before .before .args in
+    let k = feeder-held (a .held .now) (c .before .before .before .before .before .before .before .before .before .before .feeder-in .ensures) (c .before .before .before .before .before .before .before .before .if1 .left) in
+    let e = c .before .before .before .before .before .before .feed .ensures ∙ ap (λ (r : Feeder). feed r (a .block .now)) (k .1) in
+    was-fed (a .held .now) (a .block .now) (k .0) _ e _ (c .before .before .before .before .before .if2 .left) (rw (eq-eqb _ _ (is-feeder _ (k .0) .places)) at (c .before .before .put-feeder .ensures))
 
 pub caf-feed-spec : {M : Type 1} → statement M
-caf-feed-spec =
-    tie.close
-    (tie.spec
-    is-feeder-requires
-    same-length
-    returns
-    feeder-of-requires
-    feed-requires
-    same-length-2
-    returns-2
-    feeder-numbers-requires
-    slice-aggregate-put
-    put-requires
-    same-length-3
-    returns-3)
+caf-feed-spec = tie.close (tie.spec feeder-in-requires same-length returns feed-requires same-length-2 returns-2 put-feeder-requires same-length-3 returns-3)

@@ -1,5 +1,7 @@
+use Rattle.caf.proofs.Told.{one-part, place-long}
 use Rattle.caf.specs.ChanNumbers.{placeNumbers}
-use Rattle.byteorder.specs.Splice.{splice}
+use Rattle.chan_reading.specs.Find.{findChan}
+use Rattle.numbers.specs.Lent.{putAt}
 use borrow.Author.Tests.{lt-ltb, le-ltb}
 use mathlib.Core.Path.{_∙_, ap}
 use borrow.Author.Needs.{needs}
@@ -25,16 +27,12 @@ same-length : tie.Need-same-length
 same-length c = search needs
 
 returns-2 : tie.Need-returns-2
-returns-2 c = let t = le-ltb _ _ (c .before .before .before .before .before .before .before .if1 .left) in (rw t, rw t (c .before .before .put .ensures ∙ ap (splice (c .before .before .before .before .before .before .before .before .before .before .args .out .now) 0) (c .before .before .before .before .before .place-numbers .ensures ∙ ap placeNumbers (c .before .before .before .before .before .before .find-chan .ensures))))
+returns-2 c =
+    let t = le-ltb _ _ (c .before .before .before .before .before .before .before .if1 .left) in
+    let out = c .before .before .before .before .before .before .before .before .before .before .args .out .now in
+    let place = findChan (c .before .before .before .before .before .before .before .before .before .before .args .file .now) in
+    let e = c .before .before .before .before .before .place-numbers .ensures ∙ ap placeNumbers (c .before .before .before .before .before .before .find-chan .ensures) in
+    (rw t, rw t (one-part out (placeNumbers place) 3 (place-long place) (c .before .before .before .before .before .before .before .if1 .left) (c .before .before .put .ensures ∙ ap (putAt out 0) e)))
 
 pub caf-find-chan-spec : {M : Type 1} → statement M
-caf-find-chan-spec =
-    tie.close
-    (tie.spec
-    returns
-    find-chan-requires
-    place-numbers-requires
-    slice-aggregate-put
-    put-requires
-    same-length
-    returns-2)
+caf-find-chan-spec = tie.close (tie.spec returns find-chan-requires place-numbers-requires slice-aggregate-put put-requires same-length returns-2)

@@ -1,6 +1,5 @@
-use Rattle.byteorder.proofs.Laws.{more}
+use Rattle.caf.proofs.Told.{two-parts}
 use lib.ListN.{length}
-use native.Mathlib.Omega.{arith}
 use mathlib.Core.List.{[], _∷_}
 use mathlib.Core.Path.{_≡_, refl}
 use borrow.Author.Needs.{needs}
@@ -25,28 +24,20 @@ slice-aggregate-put c = search needs
 put-requires : tie.Need-put-requires
 put-requires c κs = search needs
 
-slice-aggregate-put-labels : tie.Need-slice-aggregate-put-labels
-slice-aggregate-put-labels c = search needs
+slice-aggregate-put-words : tie.Need-slice-aggregate-put-words
+slice-aggregate-put-words c = search needs
 
-put-labels-requires : tie.Need-put-labels-requires
-put-labels-requires c κs = let k = labels-length (c .before .before .before .before .before .before .before .before .before .before .before .before) in omega (arith, c .before .before .before .before .before .put .kept .0)
+put-words-requires : tie.Need-put-words-requires
+put-words-requires c κs = search needs
 
 same-length : tie.Need-same-length
 same-length c = search needs
 
 returns : tie.Need-returns
-returns c = let a = c .before .before .before .before .before .before .before .before .before .before .before .before .before .before .before .args in let k = labels-length (c .before .before .before .before .before .before .before .before .before .before .before .before .before .before .before) in more (a .answer .now) 0 4 (a .head .tag ∷ a .head .bitmap ∷ a .head .count ∷ a .order .count ∷ []) (a .order .labels) (c .before .before .before .before .before .before .before .before .put .ensures) (c .before .before .put-labels .ensures) refl (omega arith)
+returns c =
+    let a = c .before .before .before .before .before .before .before .before .before .before .before .before .before .before .before .args in
+    let k = labels-length (c .before .before .before .before .before .before .before .before .before .before .before .before .before .before .before) in
+    two-parts (a .answer .now) (a .head .tag ∷ a .head .bitmap ∷ a .head .count ∷ a .order .count ∷ []) (a .order .labels) 4 8 refl k (c .before .before .before .before .before .before .before .before .before .before .before .before .before .before .before .pre) (c .before .before .before .before .before .before .before .before .put .ensures) (c .before .before .put-words .ensures)
 
 pub put-given-spec : {M : Type 1} → statement M
-put-given-spec =
-    tie.close
-    (tie.spec
-    cast-t6
-    cast-t7
-    cast-t8
-    slice-aggregate-put
-    put-requires
-    slice-aggregate-put-labels
-    put-labels-requires
-    same-length
-    returns)
+put-given-spec = tie.close (tie.spec cast-t6 cast-t7 cast-t8 slice-aggregate-put put-requires slice-aggregate-put-words put-words-requires same-length returns)

@@ -1,9 +1,7 @@
-use Rattle.caf.proofs.Calls.{short-counted, none-counted, record-counted}
+use Rattle.caf.proofs.Calls.{none-held, record-held, short-counted, none-counted, record-counted}
 use Rattle.writer.specs.Data.{dataCall}
-use lib.ListN.{length}
 use Rattle.writer.specs.declared.CAFWriter.{CAFWriter}
-use borrow.Author.Tests.{not-true, not-false}
-use mathlib.Core.Path.{sym, _∙_}
+use lib.ListN.{length}
 use borrow.Author.Needs.{needs}
 use Rattle.caf.proofs.counted.caf_write_data_counted.Statement.{statement}
 use Rattle.caf.proofs.counted.caf_write_data_counted.Tie as tie
@@ -11,8 +9,8 @@ use Rattle.caf.proofs.counted.caf_write_data_counted.Tie as tie
 returns : tie.Need-returns
 returns c = let a = c .before .before .before .before .before .args in short-counted (a .n) (a .held .now) (a .buf .now) (a .out .now) _ (c .if1 .taken)
 
-is-record-requires : tie.Need-is-record-requires
-is-record-requires c κs = search needs
+record-in-requires : tie.Need-record-in-requires
+record-in-requires c κs = search needs
 
 no-count-requires : tie.Need-no-count-requires
 no-count-requires c κs = search needs
@@ -25,11 +23,8 @@ same-length c = search needs
 
 returns-2 : tie.Need-returns-2
 returns-2 c =
-    let a = c .before .before .before .before .before .before .before .before .before .before .before .before .args in
-    none-counted (a .n) (a .held .now) (a .buf .now) (a .out .now) _ (c .before .before .before .before .before .before .before .if1 .left) (c .before .before .tell .ensures .0) (c .before .before .tell .ensures .1) (sym (c .before .before .before .before .before .before .is-record .ensures) ∙ not-true _ (c .before .before .before .before .before .if2 .taken)) (c .before .before .before .no-count .ensures)
-
-record-of-requires : tie.Need-record-of-requires
-record-of-requires c κs = sym (c .before .is-record .ensures) ∙ not-false _ (c .if2 .left)
+    let a = c .before .before .before .before .before .before .before .before .before .before .before .before .before .args in
+    none-counted (a .n) (a .held .now) (a .buf .now) (a .out .now) _ (c .before .before .before .before .before .before .before .before .if1 .left) (c .before .before .tell .ensures .0) (c .before .before .tell .ensures .1) (none-held _ (c .before .before .before .before .before .before .before .record-in .ensures) (c .before .before .before .before .before .if2 .taken)) (c .before .before .before .no-count .ensures)
 
 write-data-counted-requires : tie.Need-write-data-counted-requires
 write-data-counted-requires c κs = search needs
@@ -45,24 +40,10 @@ same-length-3 c = search needs
 
 returns-3 : tie.Need-returns-3
 returns-3 c =
-    let a = c .before .before .before .before .before .before .before .before .before .before .before .before .before .before .before .before .args in
-    let e = sym (c .before .before .before .before .before .before .before .before .before .before .is-record .ensures) ∙ not-false _ (c .before .before .before .before .before .before .before .before .before .if2 .left) in
-    let p = rw (c .before .before .before .before .before .before .before .before .record-of .ensures) at (c .before .before .before .before .before .before .write-data-counted .ensures) in
-    record-counted (a .n) (a .held .now) (a .buf .now) (a .out .now) (λ (w : CAFWriter). dataCall w (length (a .buf .now)) (a .bytes .now)) (c .before .before .before .before .before .before .before .before .before .before .before .if1 .left) (c .before .before .tell2 .ensures .0) (c .before .before .tell2 .ensures .1) e (p .0) (p .1)
+    let a = c .before .before .before .before .before .before .before .before .before .before .before .before .before .before .before .before .before .args in
+    let k = record-held (a .held .now) (c .before .before .before .before .before .before .before .before .before .before .before .record-in .ensures) (c .before .before .before .before .before .before .before .before .before .if2 .left) in
+    let p = rw (k .1) at (c .before .before .before .before .before .before .write-data-counted .ensures) in
+    record-counted (a .n) (a .held .now) (a .buf .now) (a .out .now) (λ (w : CAFWriter). dataCall w (length (a .buf .now)) (a .bytes .now)) (c .before .before .before .before .before .before .before .before .before .before .before .before .if1 .left) (c .before .before .tell2 .ensures .0) (c .before .before .tell2 .ensures .1) (k .0) (p .0) (p .1)
 
 pub caf-write-data-counted-spec : {M : Type 1} → statement M
-caf-write-data-counted-spec =
-    tie.close
-    (tie.spec
-    returns
-    is-record-requires
-    no-count-requires
-    tell-requires
-    same-length
-    returns-2
-    record-of-requires
-    write-data-counted-requires
-    tell-requires-2
-    same-length-2
-    same-length-3
-    returns-3)
+caf-write-data-counted-spec = tie.close (tie.spec returns record-in-requires no-count-requires tell-requires same-length returns-2 write-data-counted-requires tell-requires-2 same-length-2 same-length-3 returns-3)

@@ -1,9 +1,8 @@
-use mathlib.Core.Path.{_≡_, _∙_, ap}
-use mathlib.Core.List.{[], _∷_}
-use borrow.Author.Tests.{lt-ltb, le-ltb}
-use Rattle.byteorder.specs.Splice.{splice}
-use Rattle.layout.specs.Search.{layoutFor}
+use Rattle.caf.proofs.Told.{one-part}
 use Rattle.caf.specs.LayoutNumbers.{layoutNumbers}
+use Rattle.layout.specs.Search.{layoutFor}
+use mathlib.Core.Path.{refl}
+use borrow.Author.Tests.{lt-ltb, le-ltb}
 use borrow.Author.Needs.{needs}
 use Rattle.caf.proofs.layouts.caf_layout_for_labels.Statement.{statement}
 use Rattle.caf.proofs.layouts.caf_layout_for_labels.Tie as tie
@@ -32,19 +31,8 @@ same-length c = search needs
 returns-2 : tie.Need-returns-2
 returns-2 c =
     let room = le-ltb _ _ (c .before .before .before .before .before .before .before .before .if1 .left) in
-    let numbers : c .before .before .before .before .before .before .layout-kind .result ∷ c .before .before .before .before .before .layout-tag .result ∷ [] ≡ layoutNumbers (layoutFor (c .before .before .before .before .before .before .before .before .before .before .before .args .labels .now)) =
-    rw (c .before .before .before .before .before .before .layout-kind .ensures, c .before .before .before .before .before .layout-tag .ensures, c .before .before .before .before .before .before .before .layout-for .ensures) in
-    (rw room, rw room (c .before .before .put .ensures ∙ ap (splice (c .before .before .before .before .before .before .before .before .before .before .before .args .out .now) 0) numbers))
+    let p = rw (c .before .before .before .before .before .before .layout-kind .ensures, c .before .before .before .before .before .layout-tag .ensures, c .before .before .before .before .before .before .before .layout-for .ensures) at (c .before .before .put .ensures) in
+    (rw room, rw room (one-part (c .before .before .before .before .before .before .before .before .before .before .before .args .out .now) (layoutNumbers (layoutFor (c .before .before .before .before .before .before .before .before .before .before .before .args .labels .now))) 2 refl (c .before .before .before .before .before .before .before .before .if1 .left) p))
 
 pub caf-layout-for-labels-spec : {M : Type 1} → statement M
-caf-layout-for-labels-spec =
-    tie.close
-    (tie.spec
-    returns
-    layout-for-requires
-    layout-kind-requires
-    layout-tag-requires
-    slice-aggregate-put
-    put-requires
-    same-length
-    returns-2)
+caf-layout-for-labels-spec = tie.close (tie.spec returns layout-for-requires layout-kind-requires layout-tag-requires slice-aggregate-put put-requires same-length returns-2)

@@ -16,7 +16,7 @@ same-length : tie.Need-same-length
 same-length c = search needs
 
 returns-2 : tie.Need-returns-2
-returns-2 c = (rw (eq-eqb _ _ (c .before .before .before .before .before .if1 .left)), rw (eq-eqb _ _ (c .before .before .before .before .before .if1 .left), ← c .before .before .before .before .new .ensures) (c .before .before .put-record .ensures))
+returns-2 c = (rw (eq-eqb _ _ (c .before .before .before .before .before .if1 .left)), rw (c .before .before .before .before .new .ensures) at (c .before .before .put-record .ensures))
 
 pub caf-new-spec : {M : Type 1} → statement M
 caf-new-spec = tie.close (tie.spec returns new-requires put-record-requires same-length returns-2)

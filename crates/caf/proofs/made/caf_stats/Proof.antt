@@ -1,5 +1,6 @@
+use Rattle.caf.proofs.Calls.{none-held, record-held}
 use Rattle.byteorder.proofs.Laws.{splice-nil}
-use borrow.Author.Tests.{lt-ltb, le-ltb, not-true, not-false}
+use borrow.Author.Tests.{lt-ltb, le-ltb}
 use mathlib.Core.Path.{sym, _∙_, ap}
 use Rattle.byteorder.specs.Splice.{splice}
 use Rattle.writer.specs.Record.{statsOf}
@@ -12,15 +13,14 @@ use Rattle.caf.proofs.made.caf_stats.Tie as tie
 returns : tie.Need-returns
 returns c = let t = lt-ltb _ _ (c .if1 .taken) in record { number = rw t; told = rw t }
 
-is-record-requires : tie.Need-is-record-requires
-is-record-requires c κs = search needs
+record-in-requires : tie.Need-record-in-requires
+record-in-requires c κs = search needs
 
 returns-2 : tie.Need-returns-2
-returns-2 c = let t = le-ltb _ _ (c .before .before .if1 .left) in let e = sym (c .before .is-record .ensures) ∙ not-true _ (c .if2 .taken) in
-    record { number = rw (t, e); told = rw (t, e) (sym (splice-nil (c .before .before .before .before .before .args .out .now) 0)) }
-
-record-of-requires : tie.Need-record-of-requires
-record-of-requires c κs = sym (c .before .is-record .ensures) ∙ not-false _ (c .if2 .left)
+returns-2 c =
+    let t = le-ltb _ _ (c .before .before .before .if1 .left) in
+    let e = none-held _ (c .before .before .record-in .ensures) (c .if2 .taken) in
+    record { number = rw (t, e); told = rw (t, e) (sym (splice-nil (c .before .before .before .before .before .before .args .out .now) 0)) }
 
 stats-requires : tie.Need-stats-requires
 stats-requires c κs = search needs
@@ -32,18 +32,13 @@ same-length : tie.Need-same-length
 same-length c = search needs
 
 returns-3 : tie.Need-returns-3
-returns-3 c = let t = le-ltb _ _ (c .before .before .before .before .before .before .before .before .if1 .left) in let e = sym (c .before .before .before .before .before .before .before .is-record .ensures) ∙ not-false _ (c .before .before .before .before .before .before .if2 .left) in
-    record { number = rw (t, e); told = rw (t, e) (c .before .before .tell-stats .ensures ∙ ap (λ (x : CAFWriterStats). splice (c .before .before .before .before .before .before .before .before .before .before .before .args .out .now) 0 (statsNumbers x)) (c .before .before .before .before .stats .ensures ∙ ap statsOf (c .before .before .before .before .before .record-of .ensures))) }
+returns-3 c =
+    let t = le-ltb _ _ (c .before .before .before .before .before .before .before .before .before .if1 .left) in
+    let k = record-held (c .before .before .before .before .before .before .before .before .before .before .before .before .args .held .now) (c .before .before .before .before .before .before .before .before .record-in .ensures) (c .before .before .before .before .before .before .if2 .left) in
+    record {
+      number = rw (t, k .0);
+      told = rw (t, k .0) (c .before .before .tell-stats .ensures ∙ ap (λ (x : CAFWriterStats). splice (c .before .before .before .before .before .before .before .before .before .before .before .before .args .out .now) 0 (statsNumbers x)) (c .before .before .before .before .stats .ensures ∙ ap statsOf (k .1)));
+    }
 
 pub caf-stats-spec : {M : Type 1} → statement M
-caf-stats-spec =
-    tie.close
-    (tie.spec
-    returns
-    is-record-requires
-    returns-2
-    record-of-requires
-    stats-requires
-    tell-stats-requires
-    same-length
-    returns-3)
+caf-stats-spec = tie.close (tie.spec returns record-in-requires returns-2 stats-requires tell-stats-requires same-length returns-3)

@@ -1,3 +1,6 @@
+use Rattle.caf.proofs.Told.{one-part}
+use Rattle.caf.specs.RecordMade.{statsNumbers}
+use mathlib.Core.Path.{refl}
 use borrow.Author.Needs.{needs}
 use Rattle.caf.proofs.made.tell_stats.Statement.{statement}
 use Rattle.caf.proofs.made.tell_stats.Tie as tie
@@ -15,8 +18,7 @@ same-length : tie.Need-same-length
 same-length c = search needs
 
 returns : tie.Need-returns
-returns c = rw (c .before .before .before .before .before .flag .ensures) at (c .before .before .put .ensures)
+returns c = one-part (c .before .before .before .before .before .before .before .args .out .now) (statsNumbers (c .before .before .before .before .before .before .before .args .stats)) 2 refl (c .before .before .before .before .before .before .before .pre) (rw (c .before .before .before .before .before .flag .ensures) at (c .before .before .put .ensures))
 
 pub tell-stats-spec : {M : Type 1} → statement M
-tell-stats-spec =
-    tie.close (tie.spec flag-requires slice-aggregate-put put-requires same-length returns)
+tell-stats-spec = tie.close (tie.spec flag-requires slice-aggregate-put put-requires same-length returns)

@@ -1,6 +1,9 @@
+use Rattle.caf.proofs.Told.{one-part}
 use Rattle.reading.specs.Answers.{plainNumber}
+use native.Mathlib.Omega.{arith}
 use borrow.Author.Tests.{lt-ltb, le-ltb}
-use mathlib.Core.Path.{sym, ap, _∙_}
+use mathlib.Core.List.{[], _∷_}
+use mathlib.Core.Path.{refl, sym, ap, _∙_}
 use borrow.Author.Needs.{needs}
 use Rattle.caf.proofs.readings.caf_parse.Statement.{statement}
 use Rattle.caf.proofs.readings.caf_parse.Tie as tie
@@ -32,7 +35,8 @@ same-length c = search needs
 returns-2 : tie.Need-returns-2
 returns-2 c =
     let e = sym (c .before .before .before .before .before .before .answer .given .1) ∙ c .before .before .before .before .before .before .before .before .parse-caf-file .ensures in
-    (rw (le-ltb _ _ (c .before .before .before .before .before .before .before .before .before .if1 .left)) (ap plainNumber e), rw (le-ltb _ _ (c .before .before .before .before .before .before .before .before .before .if1 .left), ← e) (c .before .before .put .ensures))
+    let t = le-ltb _ _ (c .before .before .before .before .before .before .before .before .before .if1 .left) in
+    (rw t (ap plainNumber e), rw (t, ← e) (one-part (c .before .before .before .before .before .before .before .before .before .before .before .before .args .out .now) (c .before .before .before .before .before .before .answer .given .0 .1 .0 ∷ []) 1 refl (omega (arith, c .before .before .before .before .before .before .before .before .before .if1 .left)) (c .before .before .put .ensures)))
 
 same-length-2 : tie.Need-same-length-2
 same-length-2 c = search needs
@@ -40,20 +44,8 @@ same-length-2 c = search needs
 returns-3 : tie.Need-returns-3
 returns-3 c =
     let e = sym (c .before .before .before .before .before .answer2 .given .1) ∙ c .before .before .before .before .before .before .before .parse-caf-file .ensures in
-    (rw (le-ltb _ _ (c .before .before .before .before .before .before .before .before .if1 .left)) (ap plainNumber e), rw (le-ltb _ _ (c .before .before .before .before .before .before .before .before .if1 .left), ← e) (c .before .before .put-found .ensures))
+    let t = le-ltb _ _ (c .before .before .before .before .before .before .before .before .if1 .left) in
+    (rw t (ap plainNumber e), rw (t, ← e) (c .before .before .put-found .ensures))
 
 pub caf-parse-spec : {M : Type 1} → statement M
-caf-parse-spec =
-    tie.close
-    (tie.spec
-    returns
-    parse-caf-file-requires
-    enum-known-answer
-    slice-aggregate-put
-    put-requires
-    enum-known-answer-2
-    put-found-requires
-    same-length
-    returns-2
-    same-length-2
-    returns-3)
+caf-parse-spec = tie.close (tie.spec returns parse-caf-file-requires enum-known-answer slice-aggregate-put put-requires enum-known-answer-2 put-found-requires same-length returns-2 same-length-2 returns-3)

@@ -1,6 +1,5 @@
-use Rattle.caf.specs.FormatNumbers.{audioNumbers}
-use Rattle.byteorder.proofs.Laws.{more}
-use native.Mathlib.Omega.{arith}
+use Rattle.caf.proofs.Told.{three-parts}
+use Rattle.numbers.specs.FormatNumbers.{flagNumber, audioNumbers}
 use mathlib.Core.List.{[], _∷_}
 use mathlib.Core.Path.{refl}
 use borrow.Author.Needs.{needs}
@@ -37,21 +36,8 @@ same-length c = search needs
 returns : tie.Need-returns
 returns c =
     let a = c .before .before .before .before .before .before .before .before .before .before .before .before .before .before .before .before .before .before .args in
-    let f = audioNumbers (a .info .format) in
-    let out = a .out .now in
-    more out 0 8 (a .chunks ∷ f) _ (more out 0 1 (a .chunks ∷ []) f (c .before .before .before .before .before .before .before .before .before .before .before .before .before .before .put .ensures) (rw (c .before .before .before .before .before .before .before .before .before .before .before .audio-numbers .ensures) at (c .before .before .before .before .before .before .before .before .put2 .ensures)) refl (omega arith)) (rw (c .before .before .before .before .before .flag .ensures) at (c .before .before .put3 .ensures)) refl (omega arith)
+    three-parts (a .out .now) (a .chunks ∷ []) (audioNumbers (a .info .format)) (a .info .«size_position» ∷ a .info .«data_start» ∷ a .info .payload ∷ flagNumber (a .info .«open») ∷ a .info .frames ∷ []) 1 7 5 refl refl refl (c .before .before .before .before .before .before .before .before .before .before .before .before .before .before .before .before .before .before .pre) (c .before .before .before .before .before .before .before .before .before .before .before .before .before .before .put .ensures)
+    (rw (c .before .before .before .before .before .before .before .before .before .before .before .audio-numbers .ensures) at (c .before .before .before .before .before .before .before .before .put2 .ensures)) (rw (c .before .before .before .before .before .flag .ensures) at (c .before .before .put3 .ensures))
 
 pub put-accepted-spec : {M : Type 1} → statement M
-put-accepted-spec =
-    tie.close
-    (tie.spec
-    slice-aggregate-put
-    put-requires
-    audio-numbers-requires
-    slice-aggregate-put-2
-    put-requires-2
-    flag-requires
-    slice-aggregate-put-3
-    put-requires-3
-    same-length
-    returns)
+put-accepted-spec = tie.close (tie.spec slice-aggregate-put put-requires audio-numbers-requires slice-aggregate-put-2 put-requires-2 flag-requires slice-aggregate-put-3 put-requires-3 same-length returns)

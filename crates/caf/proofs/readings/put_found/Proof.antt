@@ -1,10 +1,8 @@
-use Rattle.caf.proofs.FormatLaws.{length-format}
-use Rattle.caf.specs.FormatNumbers.{formatNumbers}
-use Rattle.byteorder.proofs.Laws.{more}
-use native.Mathlib.Omega.{arith}
-use Prim.Native.Nat.{suc}
+use Rattle.caf.proofs.Told.{three-parts}
+use Rattle.numbers.proofs.FormatLaws.{length-format}
+use Rattle.numbers.specs.FormatNumbers.{formatNumbers}
 use mathlib.Core.List.{[], _∷_}
-use mathlib.Core.Path.{refl, ap}
+use mathlib.Core.Path.{refl}
 use borrow.Author.Needs.{needs}
 use Rattle.caf.proofs.readings.put_found.Statement.{statement}
 use Rattle.caf.proofs.readings.put_found.Tie as tie
@@ -39,22 +37,8 @@ same-length c = search needs
 returns : tie.Need-returns
 returns c =
     let a = c .before .before .before .before .before .before .before .before .before .before .before .before .before .before .before .before .before .before .args in
-    let f = formatNumbers (a .info .format) in
-    let out = a .out .now in
-    let l = length-format (a .info .format) in
-    more out 0 9 (a .chunks ∷ f) _ (more out 0 1 (a .chunks ∷ []) f (c .before .before .before .before .before .before .before .before .before .before .before .before .before .before .put .ensures) (rw (c .before .before .before .before .before .before .before .before .before .before .before .format-numbers .ensures) at (c .before .before .before .before .before .before .before .before .put2 .ensures)) refl (omega arith)) (rw (c .before .before .before .before .before .order-number .ensures) at (c .before .before .put3 .ensures)) (ap suc l) (omega arith)
+    three-parts (a .out .now) (a .chunks ∷ []) (formatNumbers (a .info .format)) _ 1 8 3 refl (length-format (a .info .format)) refl (c .before .before .before .before .before .before .before .before .before .before .before .before .before .before .before .before .before .before .pre) (c .before .before .before .before .before .before .before .before .before .before .before .before .before .before .put .ensures)
+    (rw (c .before .before .before .before .before .before .before .before .before .before .before .format-numbers .ensures) at (c .before .before .before .before .before .before .before .before .put2 .ensures)) (rw (c .before .before .before .before .before .order-number .ensures) at (c .before .before .put3 .ensures))
 
 pub put-found-spec : {M : Type 1} → statement M
-put-found-spec =
-    tie.close
-    (tie.spec
-    slice-aggregate-put
-    put-requires
-    format-numbers-requires
-    slice-aggregate-put-2
-    put-requires-2
-    order-number-requires
-    slice-aggregate-put-3
-    put-requires-3
-    same-length
-    returns)
+put-found-spec = tie.close (tie.spec slice-aggregate-put put-requires format-numbers-requires slice-aggregate-put-2 put-requires-2 order-number-requires slice-aggregate-put-3 put-requires-3 same-length returns)

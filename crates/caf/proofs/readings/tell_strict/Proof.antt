@@ -1,5 +1,8 @@
+use Rattle.caf.proofs.Told.{one-part}
 use Rattle.reading.specs.Answers.{strictNumber}
-use mathlib.Core.Path.{sym, ap}
+use native.Mathlib.Omega.{arith}
+use mathlib.Core.List.{[], _∷_}
+use mathlib.Core.Path.{refl, sym, ap}
 use borrow.Author.Needs.{needs}
 use Rattle.caf.proofs.readings.tell_strict.Statement.{statement}
 use Rattle.caf.proofs.readings.tell_strict.Tie as tie
@@ -23,24 +26,13 @@ same-length : tie.Need-same-length
 same-length c = search needs
 
 returns : tie.Need-returns
-returns c = (ap strictNumber (sym (c .before .before .before .before .before .before .answer .given .1)), rw (c .before .before .before .before .before .before .answer .given .1) (c .before .before .put .ensures))
+returns c = let e = c .before .before .before .before .before .before .answer .given .1 in (ap strictNumber (sym e), rw e (one-part (c .before .before .before .before .before .before .before .before .before .args .out .now) (c .before .before .before .before .before .before .answer .given .0 .1 .0 ∷ []) 1 refl (omega (arith, c .before .before .before .before .before .before .before .before .before .pre)) (c .before .before .put .ensures)))
 
 same-length-2 : tie.Need-same-length-2
 same-length-2 c = search needs
 
 returns-2 : tie.Need-returns-2
-returns-2 c = (ap strictNumber (sym (c .before .before .before .before .before .answer2 .given .1)), rw (c .before .before .before .before .before .answer2 .given .1) (c .before .before .put-accepted .ensures))
+returns-2 c = let e = c .before .before .before .before .before .answer2 .given .1 in (ap strictNumber (sym e), rw e (c .before .before .put-accepted .ensures))
 
 pub tell-strict-spec : {M : Type 1} → statement M
-tell-strict-spec =
-    tie.close
-    (tie.spec
-    enum-known-answer
-    slice-aggregate-put
-    put-requires
-    enum-known-answer-2
-    put-accepted-requires
-    same-length
-    returns
-    same-length-2
-    returns-2)
+tell-strict-spec = tie.close (tie.spec enum-known-answer slice-aggregate-put put-requires enum-known-answer-2 put-accepted-requires same-length returns same-length-2 returns-2)

@@ -1,30 +1,25 @@
-use Rattle.caf.proofs.Calls.{none-set, record-set}
-use Rattle.caf.proofs.Records.{is-record}
+use Rattle.caf.proofs.Calls.{none-held, record-held, none-set, record-set}
+use Rattle.record_numbers.proofs.Records.{is-record}
 use Rattle.writer.specs.Settings.{tagCall}
 use Rattle.writer.specs.declared.CAFWriter.{CAFWriter}
-use borrow.Author.Tests.{not-true, not-false}
-use mathlib.Core.Path.{sym, _∙_}
 use borrow.Author.Needs.{needs}
 use Rattle.caf.proofs.settings.caf_set_layout_tag.Statement.{statement}
 use Rattle.caf.proofs.settings.caf_set_layout_tag.Tie as tie
 
-is-record-requires : tie.Need-is-record-requires
-is-record-requires c κs = search needs
+record-in-requires : tie.Need-record-in-requires
+record-in-requires c κs = search needs
 
 same-length : tie.Need-same-length
 same-length c = search needs
 
 returns : tie.Need-returns
-returns c = none-set (c .before .before .before .before .args .held .now) _ (sym (c .before .is-record .ensures) ∙ not-true _ (c .if1 .taken))
-
-record-of-requires : tie.Need-record-of-requires
-record-of-requires c κs = sym (c .before .before .is-record .ensures) ∙ not-false _ (c .before .if1 .left)
+returns c = none-set (c .before .before .before .before .before .args .held .now) _ (none-held _ (c .before .before .record-in .ensures) (c .if1 .taken))
 
 set-channel-layout-tag-requires : tie.Need-set-channel-layout-tag-requires
 set-channel-layout-tag-requires c κs = search needs
 
 keep-requires : tie.Need-keep-requires
-keep-requires c κs = is-record _ (sym (c .before .before .before .before .before .is-record .ensures) ∙ not-false _ (c .before .before .before .before .if1 .left)) .places
+keep-requires c κs = is-record _ (record-held _ (c .before .before .before .before .before .record-in .ensures) (c .before .before .before .if1 .left) .0) .places
 
 same-length-2 : tie.Need-same-length-2
 same-length-2 c = search needs
@@ -32,19 +27,9 @@ same-length-2 c = search needs
 returns-2 : tie.Need-returns-2
 returns-2 c =
     let a = c .before .before .before .before .before .before .before .before .before .before .before .args in
-    let e = sym (c .before .before .before .before .before .before .before .before .is-record .ensures) ∙ not-false _ (c .before .before .before .before .before .before .before .if1 .left) in
-    let p = rw (c .before .before .before .before .before .record-of .ensures) at (c .before .before .before .before .set-channel-layout-tag .ensures) in
-    record-set (a .held .now) (λ (w : CAFWriter). tagCall w (a .tag)) e p (c .before .before .keep .ensures .0) (c .before .before .keep .ensures .1)
+    let k = record-held (a .held .now) (c .before .before .before .before .before .before .before .before .record-in .ensures) (c .before .before .before .before .before .before .if1 .left) in
+    let p = rw (k .1) at (c .before .before .before .before .set-channel-layout-tag .ensures) in
+    record-set (a .held .now) (λ (w : CAFWriter). tagCall w (a .tag)) (k .0) p (c .before .before .keep .ensures .0) (c .before .before .keep .ensures .1)
 
 pub caf-set-layout-tag-spec : {M : Type 1} → statement M
-caf-set-layout-tag-spec =
-    tie.close
-    (tie.spec
-    is-record-requires
-    same-length
-    returns
-    record-of-requires
-    set-channel-layout-tag-requires
-    keep-requires
-    same-length-2
-    returns-2)
+caf-set-layout-tag-spec = tie.close (tie.spec record-in-requires same-length returns set-channel-layout-tag-requires keep-requires same-length-2 returns-2)

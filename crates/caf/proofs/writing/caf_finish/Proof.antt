@@ -1,31 +1,26 @@
-use Rattle.caf.proofs.Calls.{none-called, record-called}
-use Rattle.caf.proofs.Records.{is-record}
+use Rattle.caf.proofs.Calls.{none-held, record-held, none-called, record-called}
+use Rattle.record_numbers.proofs.Records.{is-record}
 use Rattle.writer.specs.Finish.{finishCall}
 use Rattle.writer.specs.declared.CAFWriter.{CAFWriter}
-use borrow.Author.Tests.{not-true, not-false}
 use lib.ListN.{length}
-use mathlib.Core.Path.{sym, _∙_}
 use borrow.Author.Needs.{needs}
 use Rattle.caf.proofs.writing.caf_finish.Statement.{statement}
 use Rattle.caf.proofs.writing.caf_finish.Tie as tie
 
-is-record-requires : tie.Need-is-record-requires
-is-record-requires c κs = search needs
+record-in-requires : tie.Need-record-in-requires
+record-in-requires c κs = search needs
 
 same-length : tie.Need-same-length
 same-length c = search needs
 
 returns : tie.Need-returns
-returns c = none-called (c .before .before .before .before .before .args .held .now) _ (c .before .before .before .before .before .args .buf .now) (sym (c .before .is-record .ensures) ∙ not-true _ (c .if1 .taken))
-
-record-of-requires : tie.Need-record-of-requires
-record-of-requires c κs = sym (c .before .before .is-record .ensures) ∙ not-false _ (c .before .if1 .left)
+returns c = none-called (c .before .before .before .before .before .before .args .held .now) _ (c .before .before .before .before .before .before .args .buf .now) (none-held _ (c .before .before .record-in .ensures) (c .if1 .taken))
 
 finish-requires : tie.Need-finish-requires
 finish-requires c κs = search needs
 
 keep-requires : tie.Need-keep-requires
-keep-requires c κs = is-record _ (sym (c .before .before .before .before .before .before .before .before .is-record .ensures) ∙ not-false _ (c .before .before .before .before .before .before .before .if1 .left)) .places
+keep-requires c κs = is-record _ (record-held _ (c .before .before .before .before .before .before .before .before .record-in .ensures) (c .before .before .before .before .before .before .if1 .left) .0) .places
 
 same-length-2 : tie.Need-same-length-2
 same-length-2 c = search needs
@@ -36,20 +31,9 @@ same-length-3 c = search needs
 returns-2 : tie.Need-returns-2
 returns-2 c =
     let a = c .before .before .before .before .before .before .before .before .before .before .before .before .before .before .before .args in
-    let e = sym (c .before .before .before .before .before .before .before .before .before .before .before .is-record .ensures) ∙ not-false _ (c .before .before .before .before .before .before .before .before .before .before .if1 .left) in
-    let p = rw (c .before .before .before .before .before .before .before .before .record-of .ensures) at (c .before .before .before .before .before .before .finish .ensures) in
-    record-called (a .held .now) (λ (w : CAFWriter). finishCall w (length (a .buf .now))) e (p .0) (c .before .before .keep .ensures .0) (c .before .before .keep .ensures .1) (a .buf .now) (p .1)
+    let k = record-held (a .held .now) (c .before .before .before .before .before .before .before .before .before .before .before .record-in .ensures) (c .before .before .before .before .before .before .before .before .before .if1 .left) in
+    let p = rw (k .1) at (c .before .before .before .before .before .before .finish .ensures) in
+    record-called (a .held .now) (λ (w : CAFWriter). finishCall w (length (a .buf .now))) (k .0) (p .0) (c .before .before .keep .ensures .0) (c .before .before .keep .ensures .1) (a .buf .now) (p .1)
 
 pub caf-finish-spec : {M : Type 1} → statement M
-caf-finish-spec =
-    tie.close
-    (tie.spec
-    is-record-requires
-    same-length
-    returns
-    record-of-requires
-    finish-requires
-    keep-requires
-    same-length-2
-    same-length-3
-    returns-2)
+caf-finish-spec = tie.close (tie.spec record-in-requires same-length returns finish-requires keep-requires same-length-2 same-length-3 returns-2)

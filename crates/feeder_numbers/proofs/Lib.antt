@@ -1,0 +1,3 @@
+pub mod Feeders
+pub mod FeederTyped
+pub mod FedThrough

@@ -1,0 +1,3 @@
+pub mod FeederNumbers
+pub mod FeederCalls
+pub mod FeederClaims

@@ -1,0 +1,4 @@
+pub mod RatePatterns
+pub mod FormatLaws
+pub mod WordLaws
+pub mod Puts

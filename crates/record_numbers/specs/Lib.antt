@@ -1,0 +1,2 @@
+pub mod RecordNumbers
+pub mod RecordClaims
