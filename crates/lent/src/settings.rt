@@ -2,9 +2,8 @@
 use format::Endianness;
 use format::PCMDataType;
 use writer::CAFWriter;
-ghost use mathlib.Core.Path.{_≡_};
-ghost use Rattle.writer.specs.Outcome.{answer};
 ghost use Rattle.writer.specs.Settings.{formatCall, tagCall, labelsCall, configureCall};
+ghost use Rattle.lent.specs.Calls.{LentSetting};
 
 pub fn set_audio_format_with_options(
     w: &mut CAFWriter,
@@ -14,7 +13,7 @@ pub fn set_audio_format_with_options(
     data_type: PCMDataType,
     endianness: Endianness,
 ) -> u32
-    ensures { λ r. ⌜ (r ≡ answer (formatCall (now (w .entry)) «sample_rate» channels «bits_per_channel» «data_type» endianness) .number) × (now (w .exit) ≡ answer (formatCall (now (w .entry)) «sample_rate» channels «bits_per_channel» «data_type» endianness) .writer) ⌝ }
+    ensures { λ r. ⌜ LentSetting (formatCall (now (w .entry)) «sample_rate» channels «bits_per_channel» «data_type» endianness) r (now (w .exit)) ⌝ }
 {
     let all = *w;
     let done = all.set_audio_format_with_options(
@@ -29,7 +28,7 @@ pub fn set_audio_format_with_options(
 }
 
 pub fn set_channel_layout_tag(w: &mut CAFWriter, tag: u32) -> u32
-    ensures { λ r. ⌜ (r ≡ answer (tagCall (now (w .entry)) tag) .number) × (now (w .exit) ≡ answer (tagCall (now (w .entry)) tag) .writer) ⌝ }
+    ensures { λ r. ⌜ LentSetting (tagCall (now (w .entry)) tag) r (now (w .exit)) ⌝ }
 {
     let all = *w;
     let done = all.set_channel_layout_tag(tag);
@@ -38,7 +37,7 @@ pub fn set_channel_layout_tag(w: &mut CAFWriter, tag: u32) -> u32
 }
 
 pub fn set_channel_layout_for_labels(w: &mut CAFWriter, labels: &[u32], channels: u32) -> u32
-    ensures { λ r. ⌜ (r ≡ answer (labelsCall (now (w .entry)) (now (labels .entry)) channels) .number) × (now (w .exit) ≡ answer (labelsCall (now (w .entry)) (now (labels .entry)) channels) .writer) ⌝ }
+    ensures { λ r. ⌜ LentSetting (labelsCall (now (w .entry)) (now (labels .entry)) channels) r (now (w .exit)) ⌝ }
 {
     let all = *w;
     let done = all.set_channel_layout_for_labels(labels, channels);
@@ -53,7 +52,7 @@ pub fn configure_audio_format(
     bits_per_channel: u32,
     labels: &[u32],
 ) -> u32
-    ensures { λ r. ⌜ (r ≡ answer (configureCall (now (w .entry)) «sample_rate» channels «bits_per_channel» (now (labels .entry))) .number) × (now (w .exit) ≡ answer (configureCall (now (w .entry)) «sample_rate» channels «bits_per_channel» (now (labels .entry))) .writer) ⌝ }
+    ensures { λ r. ⌜ LentSetting (configureCall (now (w .entry)) «sample_rate» channels «bits_per_channel» (now (labels .entry))) r (now (w .exit)) ⌝ }
 {
     let all = *w;
     let done = all.configure_audio_format(sample_rate, channels, bits_per_channel, labels);

@@ -1,14 +1,13 @@
 // The calls that write. The lent buffer holds the file.
 use writer::CAFWriter;
-ghost use mathlib.Core.Path.{_≡_};
 ghost use lib.ListN.{length};
-ghost use Rattle.writer.specs.Outcome.{answer, bufferAfter};
 ghost use Rattle.writer.specs.Header.{headerCall};
 ghost use Rattle.writer.specs.Data.{dataCall, samplesCall};
 ghost use Rattle.writer.specs.Finish.{finishCall};
+ghost use Rattle.lent.specs.Calls.{LentCall};
 
 pub fn write_header(w: &mut CAFWriter, buf: &mut [u8]) -> u32
-    ensures { λ r. ⌜ (r ≡ answer (headerCall (now (w .entry)) (length (now (buf .entry)))) .number) × (now (w .exit) ≡ answer (headerCall (now (w .entry)) (length (now (buf .entry)))) .writer) × (now (buf .exit) ≡ bufferAfter (headerCall (now (w .entry)) (length (now (buf .entry)))) (now (buf .entry))) ⌝ }
+    ensures { λ r. ⌜ LentCall (headerCall (now (w .entry)) (length (now (buf .entry)))) r (now (w .exit)) (now (buf .entry)) (now (buf .exit)) ⌝ }
 {
     let all = *w;
     let done = all.write_header(buf);
@@ -17,7 +16,7 @@ pub fn write_header(w: &mut CAFWriter, buf: &mut [u8]) -> u32
 }
 
 pub fn write_data(w: &mut CAFWriter, buf: &mut [u8], data: &[u8]) -> u32
-    ensures { λ r. ⌜ (r ≡ answer (dataCall (now (w .entry)) (length (now (buf .entry))) (now («data» .entry))) .number) × (now (w .exit) ≡ answer (dataCall (now (w .entry)) (length (now (buf .entry))) (now («data» .entry))) .writer) × (now (buf .exit) ≡ bufferAfter (dataCall (now (w .entry)) (length (now (buf .entry))) (now («data» .entry))) (now (buf .entry))) ⌝ }
+    ensures { λ r. ⌜ LentCall (dataCall (now (w .entry)) (length (now (buf .entry))) (now («data» .entry))) r (now (w .exit)) (now (buf .entry)) (now (buf .exit)) ⌝ }
 {
     let all = *w;
     let done = all.write_data(buf, data);
@@ -26,7 +25,7 @@ pub fn write_data(w: &mut CAFWriter, buf: &mut [u8], data: &[u8]) -> u32
 }
 
 pub fn write_pcm_24bit_as_packed(w: &mut CAFWriter, buf: &mut [u8], samples: &[i32]) -> u32
-    ensures { λ r. ⌜ (r ≡ answer (samplesCall (now (w .entry)) (length (now (buf .entry))) (now (samples .entry))) .number) × (now (w .exit) ≡ answer (samplesCall (now (w .entry)) (length (now (buf .entry))) (now (samples .entry))) .writer) × (now (buf .exit) ≡ bufferAfter (samplesCall (now (w .entry)) (length (now (buf .entry))) (now (samples .entry))) (now (buf .entry))) ⌝ }
+    ensures { λ r. ⌜ LentCall (samplesCall (now (w .entry)) (length (now (buf .entry))) (now (samples .entry))) r (now (w .exit)) (now (buf .entry)) (now (buf .exit)) ⌝ }
 {
     let all = *w;
     let done = all.write_pcm_24bit_as_packed(buf, samples);
@@ -35,7 +34,7 @@ pub fn write_pcm_24bit_as_packed(w: &mut CAFWriter, buf: &mut [u8], samples: &[i
 }
 
 pub fn finish(w: &mut CAFWriter, buf: &mut [u8]) -> u32
-    ensures { λ r. ⌜ (r ≡ answer (finishCall (now (w .entry)) (length (now (buf .entry)))) .number) × (now (w .exit) ≡ answer (finishCall (now (w .entry)) (length (now (buf .entry)))) .writer) × (now (buf .exit) ≡ bufferAfter (finishCall (now (w .entry)) (length (now (buf .entry)))) (now (buf .entry))) ⌝ }
+    ensures { λ r. ⌜ LentCall (finishCall (now (w .entry)) (length (now (buf .entry)))) r (now (w .exit)) (now (buf .entry)) (now (buf .exit)) ⌝ }
 {
     let all = *w;
     let done = all.finish(buf);

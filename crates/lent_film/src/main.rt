@@ -179,11 +179,11 @@ fn showing(start: Film, one: &mut [u8; ROOM], two: &mut [u8; ROOM]) -> Film {
     data(f, &[7; 64], one, two)
 }
 
-// The last samples and the end. Data behind it are refused, and a second finish is not.
+// The last samples and the end. Data after it are refused, and a second finish is not.
 fn ending(start: Film, one: &mut [u8; ROOM], two: &mut [u8; ROOM]) -> Film {
     let f = samples(start, &[8388607, -8388608], one, two);
     let f = finish(f, one, two);
-    let f = data(f, b"behind", one, two);
+    let f = data(f, b"after!", one, two);
     finish(f, one, two)
 }
 
