@@ -10,7 +10,7 @@ use lib.ListN.{length, getD, replicate, getD-replicate, List·getD-eq-default}
 use borrow.Author.Tests.{ltb-true, ltb-false, le-leb}
 use Rattle.byteorder.specs.Big.{bigAt}
 use Rattle.byteorder.specs.Splice.{storeCount, storeFirst}
-use Rattle.byteorder.proofs.Places.{store-there, store-behind}
+use Rattle.byteorder.proofs.Places.{store-there, store-after}
 use Rattle.format.specs.Desc.{descSize, formatAt}
 use Rattle.format.specs.FormatAnswers.{descRead}
 
@@ -31,7 +31,7 @@ module _ (body : List ℕ) where
       go true e = ap (λ (j : ℕ). getD padded j 0) (sym (zero-add i)) ∙ store-there descSize body 0 zeros i 0 (omega (arith, stored, ltb-true i (length body) e))
       go false e =
           let past = ltb-false i (length body) e in
-          store-behind descSize body 0 zeros i 0 (omega (arith, stored))
+          store-after descSize body 0 zeros i 0 (omega (arith, stored))
           ∙ getD-replicate descSize i 0 0 h
           ∙ sym (List·getD-eq-default body 0 past)
 

@@ -21,7 +21,7 @@ module _ (f : AudioFormat) (layout : ChannelLayout) (ls : List ℕ) where
   unfolding headerBytes bytesOf
   before-data = sym (length-append (front f (layoutChunks layout ls)) (dataChunk true 0 [])) ∙ header-length f layout ls
 
-  -- the audio stands behind the data chunk's header and edit count
+  -- the audio stands after the data chunk's header and edit count
   audio-there : (isOpen : Bool) (audio : List ℕ) → drop (startOf layout ls) (bytesOf (made isOpen f layout ls audio)) ≡ audio
   audio-there isOpen audio =
       let pre = front f (layoutChunks layout ls) in

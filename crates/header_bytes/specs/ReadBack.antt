@@ -25,7 +25,7 @@ module _ (isOpen : Bool) (f : AudioFormat) (layout : ChannelLayout) (ls audio : 
     pub state : v .«open» ≡ isOpen
     pub there : take (v .payload) (drop (v .«data_start») (bytesOf (made isOpen f layout ls audio))) ≡ audio
 
--- open before the finish, closed behind it: in both states with exactly the payload
+-- open before the finish, closed after it: in both states with exactly the payload
 abbrev pub ReadBack : Type 0
 ReadBack =
     (isOpen : Bool) (f : AudioFormat) (layout : ChannelLayout) (ls audio : List ℕ)

@@ -1,4 +1,4 @@
-// Runs both readings on short files: concatenations of the pieces that stand on standard input, each in a slot of 64 bytes behind its
+// Runs both readings on short files: concatenations of the pieces that stand on standard input, each in a slot of 64 bytes after its
 // length. `tools/reading_model.py` writes the input and, by a second implementation of document 01's words, the output that is wanted; it
 // says what the lines mean.
 mod digest;
@@ -47,7 +47,7 @@ fn two_more(slots: &[u8], file: &mut [u8], at: usize) -> u64
     digest
 }
 
-// The rest of a line, behind the names of the file's pieces.
+// The rest of a line, after the names of the file's pieces.
 fn line(slots: &[u8], file: &mut [u8], at: usize)
     requires { ⌜ at ≤ length (now file) ⌝ }
     ensures { λ _. ⌜ length (now (file .exit)) ≡ length (now (file .entry)) ⌝ }
@@ -66,7 +66,7 @@ fn letter(i: usize)
     word(&one);
 }
 
-// A line for each piece behind the first `at` bytes, whose pieces have these names.
+// A line for each piece after the first `at` bytes, whose pieces have these names.
 fn lines(slots: &[u8], file: &mut [u8], names: &[u8], at: usize)
     requires { ⌜ at ≤ length (now file) ⌝ }
     ensures { λ _. ⌜ length (now (file .exit)) ≡ length (now (file .entry)) ⌝ }

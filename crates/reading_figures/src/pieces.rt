@@ -20,7 +20,7 @@ fn least(a: usize, b: usize) -> usize
     b
 }
 
-// Copies n bytes behind the first one of a slot.
+// Copies n bytes after the first one of a slot.
 fn copy(slot: &[u8], file: &mut [u8], at: usize, n: usize)
     requires { ⌜ (n < length (now slot)) × (at + n ≤ length (now file)) ⌝ }
     ensures { λ _. ⌜ length (now (file .exit)) ≡ length (now (file .entry)) ⌝ }
@@ -32,7 +32,7 @@ fn copy(slot: &[u8], file: &mut [u8], at: usize, n: usize)
     }
 }
 
-// Puts the piece of one slot behind the first `at` bytes of the file; gives its new length.
+// Puts the piece of one slot after the first `at` bytes of the file; gives its new length.
 fn put_piece(slot: &[u8], file: &mut [u8], at: usize) -> usize
     requires { ⌜ at ≤ length (now file) ⌝ }
     ensures { λ r. ⌜ (at ≤ r) × (r ≤ length (now (file .exit))) ⌝ }

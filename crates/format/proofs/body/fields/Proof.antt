@@ -55,7 +55,7 @@ slice-aggregate-put-u32-6 c = search needs
 put-u32-requires-6 : tie.Need-put-u32-requires-6
 put-u32-requires-6 c κs = search needs
 
--- each put goes right behind the last one, into what is left of the zeros
+-- each put goes right after the last one, into what is left of the zeros
 returns : tie.Need-returns
 unfolding descBody
 returns c =
