@@ -19,7 +19,8 @@ use Rattle.feeder.specs.declared.Phase.{Phase}
 use Rattle.feeder.specs.declared.Phase.the-variants.{FileHeader, Skipping, OpenData}
 use Rattle.feeder.specs.declared.DataChunk.the-variants.{Ahead}
 use Rattle.feeder.specs.declared.Feeder.{Feeder}
-use Rattle.feeding.specs.Feed.{judgedHeader, judged, collected, took, step1, feed, feedAll}
+use Rattle.judging.specs.Judge.{judgedHeader, judged}
+use Rattle.feeding.specs.Feed.{collected, took, step1, feed, feedAll}
 
 -- 44100 frames a second, 16 bits, two channels
 abbrev body : List ℕ

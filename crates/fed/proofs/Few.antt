@@ -22,7 +22,8 @@ use Rattle.feeder.specs.declared.DataChunk.{DataChunk}
 use Rattle.feeder.specs.declared.DataChunk.the-variants.{Ahead, Passed}
 use Rattle.feeder.specs.declared.Feeder.{Feeder}
 use Rattle.feeder.proofs.Facts.{Sound, sound-facts}
-use Rattle.feeding.specs.Feed.{judgedData, judgedHeader, begunData, judged, counted, collected, fills, took, isRefused, step1, feedBytes}
+use Rattle.judging.specs.Judge.{judgedData, judgedHeader, begunData, judged}
+use Rattle.feeding.specs.Feed.{counted, collected, fills, took, isRefused, step1, feedBytes}
 use Rattle.feeding.specs.Turns.{wanted, takes, turn}
 use Rattle.feeding.proofs.Soundness.{step-sound, bytes-sound}
 use Rattle.feeding.proofs.Turns.{from, Collects, turn-is, turn-takes, bytes-steady}

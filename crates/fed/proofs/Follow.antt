@@ -34,7 +34,8 @@ use Rattle.feeder.specs.declared.Phase.the-variants.{FileHeader, FirstHeader, D
 use Rattle.feeder.specs.declared.DataChunk.{DataChunk}
 use Rattle.feeder.specs.declared.DataChunk.the-variants.{Ahead, Passed}
 use Rattle.feeder.specs.declared.Feeder.{Feeder}
-use Rattle.feeding.specs.Feed.{skipping, judgedData, judgedHeader, begunData, judged, counted, collected, fills, took, isRefused}
+use Rattle.judging.specs.Judge.{skipping, judgedData, judgedHeader, begunData, judged}
+use Rattle.feeding.specs.Feed.{counted, collected, fills, took, isRefused}
 use Rattle.feeding.specs.Turns.{wanted}
 use Rattle.fed.proofs.Piece.{Holds, holds-none, holds-as, holds-more, stands-same, stands-front, size-same, rate-same, format-same}
 use Rattle.fed.proofs.At.{At, AtBody, AtDesc, AtEdit, AtFile, AtFirst, AtHeader, AtOpen, Follows, Known, closing, fromEdit, overBody, rulesFor, stepped, walked}

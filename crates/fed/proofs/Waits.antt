@@ -26,7 +26,8 @@ use Rattle.feeder.specs.declared.Phase.the-variants.{FileHeader, FirstHeader, D
 use Rattle.feeder.specs.declared.DataChunk.{DataChunk}
 use Rattle.feeder.specs.declared.DataChunk.the-variants.{Ahead, Passed}
 use Rattle.feeder.specs.declared.Feeder.{Feeder}
-use Rattle.feeding.specs.Feed.{begunData, judged, counted, collected, took, isRefused, feedBytes}
+use Rattle.judging.specs.Judge.{begunData, judged}
+use Rattle.feeding.specs.Feed.{counted, collected, took, isRefused, feedBytes}
 use Rattle.feeding.specs.Turns.{wanted}
 use Rattle.feeding.proofs.Turns.{from, Collects, took-piece}
 use Rattle.fed.specs.Claims.{WaitsForEnd}

@@ -1,9 +1,9 @@
-use Rattle.feeding.specs.Feed.{judged}
+use Rattle.judging.specs.Judge.{judged}
 use Rattle.format.proofs.DescPart.{desc-refused, desc-given}
 use mathlib.Core.Path.{sym, _∙_}
 use borrow.Author.Needs.{needs}
-use Rattle.feeding.proofs.judge.judged_desc.Statement.{statement}
-use Rattle.feeding.proofs.judge.judged_desc.Tie as tie
+use Rattle.judging.proofs.judge.judged_desc.Statement.{statement}
+use Rattle.judging.proofs.judge.judged_desc.Tie as tie
 
 read-desc-requires : tie.Need-read-desc-requires
 read-desc-requires c κs = search needs

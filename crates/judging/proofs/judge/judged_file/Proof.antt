@@ -1,7 +1,7 @@
-use Rattle.feeding.specs.Feed.{judged}
+use Rattle.judging.specs.Judge.{judged}
 use borrow.Author.Needs.{needs}
-use Rattle.feeding.proofs.judge.judged_file.Statement.{statement}
-use Rattle.feeding.proofs.judge.judged_file.Tie as tie
+use Rattle.judging.proofs.judge.judged_file.Statement.{statement}
+use Rattle.judging.proofs.judge.judged_file.Tie as tie
 
 stands-at-requires : tie.Need-stands-at-requires
 stands-at-requires c κs = search needs

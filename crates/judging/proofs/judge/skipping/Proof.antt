@@ -1,6 +1,6 @@
 use borrow.Author.Tests.{eq-eqb, ne-eqb}
-use Rattle.feeding.proofs.judge.skipping.Statement.{statement}
-use Rattle.feeding.proofs.judge.skipping.Tie as tie
+use Rattle.judging.proofs.judge.skipping.Statement.{statement}
+use Rattle.judging.proofs.judge.skipping.Tie as tie
 
 returns : tie.Need-returns
 returns c = rw (eq-eqb _ _ (c .if1 .taken))

@@ -1,8 +1,8 @@
 use borrow.Author.Tests.{not-true, not-false, eq-eqb, ne-eqb}
-use Rattle.feeding.specs.Feed.{judged}
+use Rattle.judging.specs.Judge.{judged}
 use borrow.Author.Needs.{needs}
-use Rattle.feeding.proofs.judge.judged_first.Statement.{statement}
-use Rattle.feeding.proofs.judge.judged_first.Tie as tie
+use Rattle.judging.proofs.judge.judged_first.Statement.{statement}
+use Rattle.judging.proofs.judge.judged_first.Tie as tie
 
 stands-at-requires : tie.Need-stands-at-requires
 stands-at-requires c κs = search needs
