@@ -24,8 +24,9 @@ use Rattle.feeder.specs.declared.DataChunk.{DataChunk}
 use Rattle.feeder.specs.declared.DataChunk.the-variants.{Ahead, Passed}
 use Rattle.feeder.specs.declared.Feeder.{Feeder}
 use Rattle.feeder.proofs.Facts.{Sound}
-use Rattle.feeding.specs.Feed.{skipping, passing, judgedData, judgedHeader, judged, collected, fills, took, isRefused, step1, feedBytes}
-use Rattle.feeder.proofs.Facts.{step-sound}
+use Rattle.judging.specs.Judge.{skipping, passing, judgedData, judgedHeader, judged}
+use Rattle.feeding.specs.Feed.{collected, fills, took, isRefused, step1, feedBytes}
+use Rattle.feeding.proofs.Soundness.{step-sound}
 
 -- a format where there is one, and a refusal of 32 bits
 abbrev pub TypedPhase : Phase → Type 0
