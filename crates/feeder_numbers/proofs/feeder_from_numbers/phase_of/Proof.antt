@@ -50,8 +50,8 @@ returns-7 : tie.Need-returns-7
 unfolding phaseOf
 returns-7 c = rw (c .before .if7 .taken, c .before .before .before .before .audio-of .ensures ∙ feeder-audio (c .before .before .before .before .before .before .before .before .before .before .before .args .numbers .now) (c .before .before .before .before .before .before .before .before .before .before .before .pre))
 
-shared-slice-read-t17 : tie.Need-shared-slice-read-t17
-shared-slice-read-t17 c = let p = is-feeder _ (c .before .before .before .before .before .before .before .before .before .before .before .before .pre) .places in omega arith
+shared-slice-read-t16 : tie.Need-shared-slice-read-t16
+shared-slice-read-t16 c = let p = is-feeder _ (c .before .before .before .before .before .before .before .before .before .before .before .before .pre) .places in omega arith
 
 returns-8 : tie.Need-returns-8
 unfolding phaseOf
@@ -80,7 +80,7 @@ phase-of-spec =
     returns-6
     shared-slice-read-t14
     returns-7
-    shared-slice-read-t17
+    shared-slice-read-t16
     returns-8
     after-data-requires
     returns-9)
