@@ -15,11 +15,11 @@ use Rattle.format.specs.declared.MaybeFormat.{MaybeFormat}
 use Rattle.format.specs.declared.MaybeFormat.the-variants.{Present}
 use Rattle.reading.specs.Types.{'desc', 'data', typeSize, chunkHeaderSize, negative, sizeToData}
 use Rattle.reading.specs.Step.{left, standsAt, sizeAt, bodyAt, skipAt}
-use Rattle.reading.specs.Rules.{strictData, onDesc, onData, pastEnd, beforeData, onRest, stepBy}
+use Rattle.reading.specs.Rules.{strictData, onData, pastEnd, beforeData, onRest, stepBy}
 use Rattle.reading.specs.Walk.{infoOf, next, walk}
 use Rattle.reading.specs.Strict.{strictInfo, strictAnswer, afterDesc}
 use Rattle.reading.specs.Table.{Strictly}
-use Rattle.reading.specs.Ends.{overAt, restNumber, stopped, Stops, endedAs, SizeTold, Ends, EndsWalk, EndsData, EndsTail}
+use Rattle.reading.specs.Ends.{overAt, restNumber, stopped, Stops, Ends, EndsWalk, EndsData, EndsTail}
 use Rattle.reading.specs.declared.Step.{Step}
 use Rattle.reading.specs.declared.Step.the-variants.{Skip, Closed, Data, Refused}
 use Rattle.reading.specs.declared.Over.{Over}

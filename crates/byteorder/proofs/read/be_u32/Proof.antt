@@ -3,11 +3,6 @@ use borrow.Author.Tests.{leb-true}
 use borrow.Author.Needs.{needs}
 use Rattle.byteorder.proofs.read.be_u32.Statement.{statement}
 use Rattle.byteorder.proofs.read.be_u32.Tie as tie
-use Rattle.byteorder.proofs.read.be_u32.Reads as reads
-use Rattle.byteorder.proofs.read.be_u32.Lts as lts
-use Rattle.byteorder.proofs.read.big_at.Reads as big-at-reads
-use Rattle.byteorder.proofs.read.four.Reads as four-reads
-use Rattle.byteorder.proofs.read.is_there.Reads as is-there-reads
 
 is-there-requires : tie.Need-is-there-requires
 is-there-requires c κs = search needs

@@ -3,9 +3,6 @@ use mathlib.Core.Path.{_∙_}
 use borrow.Author.Needs.{needs}
 use Rattle.byteorder.proofs.read.eight.Statement.{statement}
 use Rattle.byteorder.proofs.read.eight.Tie as tie
-use Rattle.byteorder.proofs.read.eight.Reads as reads
-use Rattle.byteorder.proofs.read.eight.Lts as lts
-use Rattle.byteorder.proofs.read.u64_of.Reads as u64-of-reads
 
 shared-slice-read-t4 : tie.Need-shared-slice-read-t4
 shared-slice-read-t4 c = search needs

@@ -3,9 +3,6 @@ use mathlib.Core.Path.{_∙_}
 use borrow.Author.Needs.{needs}
 use Rattle.byteorder.proofs.read.four.Statement.{statement}
 use Rattle.byteorder.proofs.read.four.Tie as tie
-use Rattle.byteorder.proofs.read.four.Reads as reads
-use Rattle.byteorder.proofs.read.four.Lts as lts
-use Rattle.byteorder.proofs.read.u32_of.Reads as u32-of-reads
 
 shared-slice-read-t4 : tie.Need-shared-slice-read-t4
 shared-slice-read-t4 c = search needs

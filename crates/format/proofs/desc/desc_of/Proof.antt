@@ -6,11 +6,6 @@ use mathlib.Core.Path.{sym, _∙_, ap}
 use borrow.Author.Needs.{needs}
 use Rattle.format.proofs.desc.desc_of.Statement.{statement}
 use Rattle.format.proofs.desc.desc_of.Tie as tie
-use Rattle.format.proofs.desc.desc_of.Reads as reads
-use Rattle.format.proofs.desc.desc_of.Lts as lts
-use Rattle.byteorder.proofs.float.rate_from_bits.Reads as rate-from-bits-reads
-use Rattle.byteorder.proofs.read.u64_of.Reads as u64-of-reads
-use Rattle.format.proofs.desc.word.Reads as word-reads
 
 array-read-t8 : tie.Need-array-read-t8
 array-read-t8 c = search needs

@@ -3,9 +3,6 @@ use mathlib.Core.Path.{_∙_}
 use borrow.Author.Needs.{needs}
 use Rattle.format.proofs.desc.word.Statement.{statement}
 use Rattle.format.proofs.desc.word.Tie as tie
-use Rattle.format.proofs.desc.word.Reads as reads
-use Rattle.format.proofs.desc.word.Lts as lts
-use Rattle.byteorder.proofs.read.u32_of.Reads as u32-of-reads
 
 array-read-t6 : tie.Need-array-read-t6
 array-read-t6 c = search needs
