@@ -11,11 +11,9 @@ use Rattle.format.specs.declared.AudioFormat.{AudioFormat}
 use Rattle.format.specs.declared.MaybeFormat.the-variants.{Present}
 use Rattle.reading.specs.Types.{typeSize, editSize, openSize, sizeToData}
 use Rattle.reading.specs.Step.{left, sizeAt, bodyAt}
-use Rattle.reading.specs.Rules.{isOpenSize}
+use Rattle.reading.specs.Rules.{Rules, Strict, Tail, isOpenSize}
 use Rattle.reading.specs.Walk.{next, walk}
 use Rattle.reading.specs.Strict.{strictAnswer, firstBody, firstChunk, strict}
-use Rattle.reading.specs.declared.Rules.{Rules}
-use Rattle.reading.specs.declared.Rules.the-variants.{Strict, Tail}
 use Rattle.reading.specs.declared.Step.{Step}
 use Rattle.reading.specs.declared.Step.the-variants.{Skip, Closed, Data, Refused as Refuse}
 use Rattle.reading.specs.declared.StrictAnswer.{StrictAnswer}

@@ -17,11 +17,9 @@ use Rattle.format.specs.declared.AudioFormat.{AudioFormat}
 use Rattle.format.specs.declared.MaybeFormat.the-variants.{Present}
 use Rattle.reading.specs.Types.{'caff', 'desc', 'data', version, typeSize, editSize, openSize, negative, sizeToData}
 use Rattle.reading.specs.Step.{left, standsAt, sizeAt, bodyAt, badRateAt, skipAt}
-use Rattle.reading.specs.Rules.{isOpenSize, isBadDataSize, strictData, stepBy}
+use Rattle.reading.specs.Rules.{Rules, Strict, Tail, isOpenSize, isBadDataSize, strictData, stepBy}
 use Rattle.reading.specs.Table.{Possible}
 use Rattle.reading.specs.Strict.{isFirstDesc, strictInfo, strictAnswer, firstBody, firstChunk, strict}
-use Rattle.reading.specs.declared.Rules.{Rules}
-use Rattle.reading.specs.declared.Rules.the-variants.{Strict, Tail}
 use Rattle.reading.specs.declared.Step.{Step}
 use Rattle.reading.specs.declared.Step.the-variants.{Data, Refused as Refuse}
 use Rattle.reading.specs.declared.StrictAnswer.the-variants.{Accepted, Rejected}

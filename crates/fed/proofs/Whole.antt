@@ -14,10 +14,9 @@ use Rattle.answers.specs.Numbers.{cutShort, noData, fileMax}
 use Rattle.format.specs.declared.AudioFormat.{AudioFormat}
 use Rattle.reading.specs.Types.{editSize, sizeToData}
 use Rattle.reading.specs.Step.{left, bodyAt}
-use Rattle.reading.specs.Rules.{isOpenSize, stepBy}
+use Rattle.reading.specs.Rules.{Strict, Tail, isOpenSize, stepBy}
 use Rattle.reading.specs.Strict.{strictInfo, firstChunk, strict}
 use Rattle.reading.specs.declared.StrictInfo.{StrictInfo}
-use Rattle.reading.specs.declared.Rules.the-variants.{Strict, Tail}
 use Rattle.reading.specs.declared.Step.the-variants.{End, Refused as Refuse}
 use Rattle.reading.specs.declared.StrictAnswer.{StrictAnswer}
 use Rattle.reading.specs.declared.StrictAnswer.the-variants.{Accepted, Rejected}

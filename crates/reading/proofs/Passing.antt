@@ -15,7 +15,7 @@ use Rattle.format.specs.declared.MaybeFormat.{MaybeFormat}
 use Rattle.format.specs.declared.MaybeFormat.the-variants.{Present}
 use Rattle.reading.specs.Types.{'desc', 'data', typeSize, chunkHeaderSize, negative, sizeToData}
 use Rattle.reading.specs.Step.{left, standsAt, sizeAt, bodyAt, skipAt}
-use Rattle.reading.specs.Rules.{strictData, onData, pastEnd, beforeData, onRest, stepBy}
+use Rattle.reading.specs.Rules.{Rules, Strict, Tail, strictData, onData, pastEnd, beforeData, onRest, stepBy}
 use Rattle.reading.specs.Walk.{infoOf, next, walk}
 use Rattle.reading.specs.Strict.{strictInfo, strictAnswer, afterDesc}
 use Rattle.reading.specs.Table.{Strictly}
@@ -28,8 +28,6 @@ use Rattle.reading.specs.declared.Stop.{Stop}
 use Rattle.reading.specs.declared.Stop.the-variants as stop
 use Rattle.reading.specs.declared.StrictWalk.{StrictWalk}
 use Rattle.reading.specs.declared.StrictWalk.the-variants as ended
-use Rattle.reading.specs.declared.Rules.{Rules}
-use Rattle.reading.specs.declared.Rules.the-variants.{Strict, Tail}
 use Rattle.reading.specs.declared.PlainAnswer.{PlainAnswer}
 use Rattle.reading.specs.declared.PlainAnswer.the-variants.{Found, NotRead}
 use Rattle.reading.specs.declared.StrictAnswer.the-variants.{Accepted}

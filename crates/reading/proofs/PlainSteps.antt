@@ -6,10 +6,9 @@ use lib.Dec.{ltb, leb}
 use Rattle.format.specs.Desc.{descSize}
 use Rattle.reading.specs.Types.{'desc', 'data', typeSize, chunkHeaderSize, editSize, negative}
 use Rattle.reading.specs.Step.{left, standsAt, sizeAt, bodyAt, badRateAt, descAt, skipAt}
-use Rattle.reading.specs.Rules.{plainData, stepBy}
+use Rattle.reading.specs.Rules.{Plain, plainData, stepBy}
 use Rattle.reading.specs.declared.Step.{Step}
 use Rattle.reading.specs.declared.Step.the-variants.{Format, Skip, Closed, Data, End, Refused}
-use Rattle.reading.specs.declared.Rules.the-variants.{Plain}
 use Rattle.reading.proofs.Choice.{either}
 
 abbrev pub PlainStep : Step → Type 0

@@ -11,7 +11,7 @@ use Rattle.byteorder.specs.Big.{bigAt}
 use Rattle.format.specs.declared.MaybeFormat.{MaybeFormat}
 use Rattle.reading.specs.Types.{typeSize, chunkHeaderSize, negative, sizeToData}
 use Rattle.reading.specs.Step.{left, sizeAt, bodyAt}
-use Rattle.reading.specs.Rules.{strictData, onData, onRest}
+use Rattle.reading.specs.Rules.{Rules, Strict, Tail, strictData, onData, onRest}
 use Rattle.reading.specs.Walk.{infoOf, next, walk}
 use Rattle.reading.specs.Table.{Strictly}
 use Rattle.reading.specs.declared.Over.{Over}
@@ -20,8 +20,6 @@ use Rattle.reading.specs.declared.Stop.{Stop}
 use Rattle.reading.specs.declared.Stop.the-variants as stop
 use Rattle.reading.specs.declared.StrictWalk.{StrictWalk}
 use Rattle.reading.specs.declared.StrictWalk.the-variants as ended
-use Rattle.reading.specs.declared.Rules.{Rules}
-use Rattle.reading.specs.declared.Rules.the-variants.{Strict, Tail}
 use Rattle.reading.specs.declared.PlainAnswer.{PlainAnswer}
 use Rattle.reading.specs.declared.PlainAnswer.the-variants.{Found, NotRead}
 

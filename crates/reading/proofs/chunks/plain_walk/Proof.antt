@@ -3,7 +3,7 @@ use Prim.Native.Nat.{_*_, _-_, _≤_}
 use native.Mathlib.Omega.{arith}
 use lib.ListN.{length}
 use Rattle.reading.specs.Walk.{walk}
-use Rattle.reading.specs.declared.Rules.the-variants.{Plain}
+use Rattle.reading.specs.Rules.{Plain}
 use Rattle.reading.proofs.Walk.{ahead-of, turn}
 use Rattle.reading.proofs.PlainSteps.{as-plain}
 use borrow.Author.Needs.{needs}

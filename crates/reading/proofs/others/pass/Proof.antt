@@ -4,7 +4,7 @@ use native.Mathlib.Omega.{arith}
 use lib.ListN.{length}
 use Rattle.format.specs.declared.MaybeFormat.{MaybeFormat}
 use Rattle.reading.specs.Walk.{walk}
-use Rattle.reading.specs.declared.Rules.{Rules}
+use Rattle.reading.specs.Rules.{Rules}
 use Rattle.reading.proofs.Passing.{at-rest, at-desc, at-data, at-negative, at-past, at-other, other-ahead}
 use borrow.Author.Needs.{needs}
 use Rattle.reading.proofs.others.pass.Statement.{statement}

@@ -1,6 +1,6 @@
 use mathlib.Core.Path.{refl}
 use Rattle.reading.specs.Table.{Strictly}
-use Rattle.reading.specs.declared.Rules.the-variants.{Strict}
+use Rattle.reading.specs.Rules.{Strict}
 use Rattle.reading.specs.declared.Stop.the-variants as stop
 use Rattle.reading.proofs.Passing.{stops-as, refused, rest-refused, walk-data}
 use borrow.Author.Needs.{needs}

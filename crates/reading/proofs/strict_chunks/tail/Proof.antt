@@ -2,7 +2,7 @@ use mathlib.Core.Path.{refl}
 use Prim.Native.Nat.{_+_}
 use native.Mathlib.Omega.{arith}
 use Rattle.reading.specs.Table.{Strictly}
-use Rattle.reading.specs.declared.Rules.the-variants.{Tail}
+use Rattle.reading.specs.Rules.{Tail}
 use Rattle.reading.specs.declared.Stop.the-variants as stop
 use Rattle.reading.proofs.Passing.{stops-as, refused, tail-end, tail-cut}
 use borrow.Author.Needs.{needs}
