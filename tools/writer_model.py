@@ -135,7 +135,7 @@ def lines():
     yield told(w, 'samples', w.samples([1, -1]))
     yield told(w, 'finish', w.finish())
     yield 'file' + pcm.hexes(w.room[:w.length])
-    yield 'behind' + pcm.hexes(w.room[w.length:])
+    yield 'after' + pcm.hexes(w.room[w.length:])
     for n in 64, 65:
         yield f'labels {n}: {Writer().set_labels((LEFT,) * n, n)}'
     for bits, channels in PACKETS:

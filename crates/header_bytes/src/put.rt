@@ -20,6 +20,7 @@ use reading::sizes::EDIT_COUNT;
 use reading::sizes::FILE_HEADER;
 use reading::sizes::OPEN;
 use reading::sizes::TYPE;
+use reading::sizes::VERSION;
 ghost use mathlib.Core.Path.{_≡_};
 ghost use mathlib.Core.Bool.{false};
 ghost use Prim.Native.Nat.{_+_, _≤_};
@@ -32,9 +33,6 @@ ghost use Rattle.reading.specs.Types.{typeSize, chunkHeaderSize, 'chan'};
 ghost use Rattle.reading.specs.Grammar.{chunkHeader, chunk, otherChunks};
 ghost use Rattle.header_bytes.specs.Made.{layoutChunks};
 ghost use Rattle.header_bytes.specs.Put.{beforeLayout, layoutPlace, openHead, longestHeader, headerIn};
-
-// Version 1, flags 0.
-const VERSION: [u8; 4] = *b"\x00\x01\x00\x00";
 
 // A chunk's type, and the size of its body.
 fn put_chunk_header(out: &mut [u8], at: usize, kind: &[u8], size: u64)

@@ -18,12 +18,15 @@ use Rattle.writer.specs.Header.{headerOf, headerNumber, headerCall}
 use Rattle.writer.specs.Data.{dataNumber, dataCall, samplesNumber, samplesCall}
 use Rattle.writer.specs.Finish.{finishNumber, finalSize, finishCall}
 use Rattle.writer.specs.Resume.{resumed, openField, resumeCall}
-use Rattle.kept.specs.WholeCalls.{SameAsWhole, Whole, WholeCalls}
+use Rattle.kept.specs.WholeCalls.{CutWhole, SameAsWhole, Whole, WholeCalls}
 use Rattle.writer.specs.declared.CAFWriter.{CAFWriter}
 use Rattle.writer.proofs.Facts.{sound-alone, headed, empty}
 use Rattle.writer.proofs.Allowed.{header-allowed, finish-sound, finish-header}
-use Rattle.writer.proofs.Counting.{cut-whole}
+use Rattle.writer.proofs.Counting as counting
 use Rattle.writer.proofs.Reopening.{resume-number, resume-refused, reopens}
+
+pub cut-whole : CutWhole
+cut-whole = counting.cut-whole
 
 -- the file grows as the next record says
 abbrev Grown : CAFWriter → Outcome → Type 0

@@ -15,7 +15,7 @@ pub(crate) fn count(s: &[u8], p: usize) -> usize {
     be_u32(s, p) as usize
 }
 
-// A position n further; one that no usize holds lies behind every case, as the last one does.
+// A position n further; one that no usize holds lies after every case, as the last one does.
 pub(crate) fn plus(p: usize, n: usize) -> usize {
     if 0xFFFF_FFFF_FFFF_FFFF - p < n {
         return 0xFFFF_FFFF_FFFF_FFFF;

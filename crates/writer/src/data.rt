@@ -6,9 +6,9 @@ use crate::budget::ALL;
 use crate::budget::with_stores;
 use crate::budget::without_stores;
 use crate::header::is_absent;
+use crate::sound::is_too_long_with;
 use answers::BAD_WRITER;
 use answers::DONE;
-use answers::FILE_MAX;
 use answers::FINISHED;
 use answers::NO_FORMAT;
 use answers::NO_HEADER;
@@ -48,11 +48,7 @@ impl CAFWriter {
         if !self.has_header {
             return NO_HEADER;
         }
-        // by what is left: the new length need not fit a usize
-        if room - self.file_len < n {
-            return NO_ROOM;
-        }
-        if FILE_MAX - self.file_len < n {
+        if is_too_long_with(self.file_len, n, room) {
             return NO_ROOM;
         }
         DONE

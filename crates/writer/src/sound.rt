@@ -9,17 +9,14 @@ use layout::ChannelLayout;
 use layout::known::all_known;
 use layout::known::known_tag;
 use layout::setting::LABEL_PLACES;
-use reading::sizes::CHUNK_HEADER;
-use reading::sizes::EDIT_COUNT;
-use reading::sizes::FILE_HEADER;
+use reading::sizes::LEAST_START;
 use reading::sizes::SIZE_TO_DATA;
 ghost use mathlib.Core.Path.{_≡_};
+ghost use Prim.Native.Nat.{_+_, _≤_};
+ghost use Rattle.answers.specs.Numbers.{fileMax};
 ghost use Rattle.format.specs.Flags.{sameOrder, isLittle};
 ghost use Rattle.writer.specs.Header.{exceeds};
 ghost use Rattle.writer.specs.Sound.{headedSound, placesSound, rateSound, formatSound, labelsSound, layoutSound, soundAlone, sound};
-
-// A file header, a chunk header and an edit count stand before the data.
-const LEAST_START: usize = FILE_HEADER + CHUNK_HEADER + EDIT_COUNT;
 
 // Whether a file of this length is longer than the buffer, or than any file may be.
 pub(crate) fn is_too_long(len: usize, room: usize) -> bool
@@ -29,6 +26,17 @@ pub(crate) fn is_too_long(len: usize, room: usize) -> bool
         return true;
     }
     FILE_MAX < len
+}
+
+// Whether it would be with n bytes more. By what is left: the new length need not fit a usize.
+pub(crate) fn is_too_long_with(len: usize, n: usize, room: usize) -> bool
+    requires { ⌜ (len ≤ room) × (len ≤ fileMax) ⌝ }
+    ensures { λ r. ⌜ r ≡ exceeds (len + n) room ⌝ }
+{
+    if room - len < n {
+        return true;
+    }
+    FILE_MAX - len < n
 }
 
 fn is_little(endianness: Endianness) -> bool
@@ -124,7 +132,7 @@ fn layout_sound(w: CAFWriter) -> bool
 
 impl CAFWriter {
     // Without a buffer.
-    pub fn is_sound_alone(self) -> bool
+    pub(crate) fn is_sound_alone(self) -> bool
         ensures { λ r. ⌜ r ≡ soundAlone self ⌝ }
     {
         if FILE_MAX < self.file_len {
@@ -140,7 +148,7 @@ impl CAFWriter {
     }
 
     // Over a buffer of `room` bytes.
-    pub fn is_sound(self, room: usize) -> bool
+    pub(crate) fn is_sound(self, room: usize) -> bool
         ensures { λ r. ⌜ r ≡ sound self room ⌝ }
     {
         if room < self.file_len {

@@ -1,5 +1,5 @@
 // Writes document 01's example and prints it: 48000 Hz, two channels, 24 bits, Stereo, samples 1 and -1, finished. Each line of a call
-// has its number and the length of the file then. The buffer was lent filled with ee, so the bytes behind the file show that they kept
+// has its number and the length of the file then. The buffer was lent filled with ee, so the bytes after the file show that they kept
 // their contents. Then come 01's bound on labels, bytes per packet as the header has them, and what a header settles.
 use format::Endianness;
 use format::PCMDataType;
@@ -108,7 +108,7 @@ fn main() {
     let len = written.file_len;
     if len <= 100 {
         part(b"file", &buf[..len]);
-        part(b"behind", &buf[len..]);
+        part(b"after", &buf[len..]);
     }
     let row = [LEFT; 65];
     labels(&row[..64], 64);
