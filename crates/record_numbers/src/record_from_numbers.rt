@@ -123,7 +123,7 @@ fn labels_of(numbers: &[u64]) -> [u32; LABEL_PLACES]
     let mut labels = [0u32; LABEL_PLACES];
     let mut i: usize = 0;
     while i < LABEL_PLACES {
-        labels[i] = word_at(numbers, LABELS + i);
+        labels[i] = (numbers[LABELS + i] % WORDS) as u32;
         i += 1;
     }
     labels

@@ -22,14 +22,20 @@ abbrev μ-loop : tie.MeasureT-loop
 loop-holds : tie.Need-loop-holds Inv-loop μ-loop
 loop-holds c = (omega arith, refl, refl)
 
-add-word-at : tie.Need-add-word-at Inv-loop μ-loop
-add-word-at c = search needs
-
-word-at-requires : tie.Need-word-at-requires Inv-loop μ-loop
-word-at-requires c κs = search needs
+add-labels : tie.Need-add-labels Inv-loop μ-loop
+add-labels c = search needs
 
 mul-labels : tie.Need-mul-labels Inv-loop μ-loop
 mul-labels c = search needs
+
+shared-slice-read-labels : tie.Need-shared-slice-read-labels Inv-loop μ-loop
+shared-slice-read-labels c = omega (arith, c .before .before .before .pre .0)
+
+cast-labels : tie.Need-cast-labels Inv-loop μ-loop
+cast-labels c = search needs
+
+mul-labels-2 : tie.Need-mul-labels-2 Inv-loop μ-loop
+mul-labels-2 c = search needs
 
 array-write-labels : tie.Need-array-write-labels Inv-loop μ-loop
 array-write-labels c = search needs
@@ -43,11 +49,11 @@ loop-less c = search needs
 loop-again : tie.Need-loop-again Inv-loop μ-loop
 loop-again c =
     let l = c .before .before .loop in
-    let s = c .before .before .before .before .args .numbers .now in
-    let p = c .before .before .before .before .pre in
+    let s = c .before .before .before .args .numbers .now in
+    let p = c .before .before .before .pre in
     let hs : l .i < length (drop 12 s) = simp length-drop (omega arith) in
     let word = part-at s 12 64 (omega (arith, p .0)) (p .1) (l .i) (c .before .loop-test .taken) in
-    (omega arith, simp length-set (l .inv .1), rw (c .word-at .ensures, low-word s (12 + l .i) word, add-one, l .inv .2, ← getD-drop) (filled _ (drop 12 s) (l .i) (c .before .loop-test .taken) hs))
+    (omega arith, simp length-set (l .inv .1), rw (low-word s (12 + l .i) word, add-one, l .inv .2, ← getD-drop) (filled _ (drop 12 s) (l .i) (c .before .loop-test .taken) hs))
 
 returns : tie.Need-returns Inv-loop μ-loop
 returns c =
@@ -62,9 +68,11 @@ labels-of-spec =
     Inv-loop
     μ-loop
     loop-holds
-    add-word-at
-    word-at-requires
+    add-labels
     mul-labels
+    shared-slice-read-labels
+    cast-labels
+    mul-labels-2
     array-write-labels
     add-i
     loop-less
