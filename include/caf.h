@@ -1,5 +1,5 @@
-/* The CAF file layer, for C. Link with libcaf.a or libcaf.so. Of the C library it needs memcpy and memset
- * and nothing else; it takes no memory of its own, keeps nothing between two calls and makes no call of
+/* The CAF file layer, for C. Link with libcaf.a or libcaf.so. Of the C library it needs memcpy, memmove
+ * and memset and nothing else; it takes no memory of its own, keeps nothing between two calls and makes no call of
  * the system. caf_names.h has names for labels, tags and numbers.
  *
  * A slice is a pointer and a count of elements. With a count of 0 the pointer may be anything, NULL
