@@ -25,7 +25,11 @@ pub fn fed_chunks(table: &Table) {
             })
         };
         let strict = |timed: &mut Windows| {
-            timed.window(CHUNKS, || assert_eq!(linked::strict(black_box(&file)).1[0], CHUNKS as u64 + 2))
+            timed.window(CHUNKS, || {
+                let mut found = linked::Found::default();
+                linked::strict(black_box(&file), &mut found);
+                assert_eq!(found[0], CHUNKS as u64 + 2);
+            })
         };
         row.race(Box::new(fed), Box::new(strict));
     }

@@ -57,19 +57,16 @@ unsafe extern "C" {
     fn caf_feed_end(feeder: *const u64, feeder_len: usize, out: *mut u64, out_len: usize) -> u32;
 }
 
-const PLACES: usize = 13;
+/// Places that a reading fills, as a caller in C keeps them.
+pub type Found = [u64; 13];
 
-/// The number of the plain reading, and all that it found.
-pub fn plain(file: &[u8]) -> (u32, [u64; PLACES]) {
-    let mut found = [0; PLACES];
-    let number = unsafe { caf_parse(file.as_ptr(), file.len(), found.as_mut_ptr(), PLACES) };
-    (number, found)
+/// The number of the plain reading; what it found goes into the lent places.
+pub fn plain(file: &[u8], found: &mut Found) -> u32 {
+    unsafe { caf_parse(file.as_ptr(), file.len(), found.as_mut_ptr(), found.len()) }
 }
 
-pub fn strict(file: &[u8]) -> (u32, [u64; PLACES]) {
-    let mut found = [0; PLACES];
-    let number = unsafe { caf_read_strict(file.as_ptr(), file.len(), found.as_mut_ptr(), PLACES) };
-    (number, found)
+pub fn strict(file: &[u8], found: &mut Found) -> u32 {
+    unsafe { caf_read_strict(file.as_ptr(), file.len(), found.as_mut_ptr(), found.len()) }
 }
 
 /// The tag for these labels, or 0.
@@ -103,9 +100,9 @@ impl Feeder {
         unsafe { caf_feed(self.0.as_mut_ptr(), FEEDER, block.as_ptr(), block.len()) }
     }
 
-    pub fn end(&self) -> (u32, [u64; PLACES]) {
-        let mut found = [0; PLACES];
-        let number = unsafe { caf_feed_end(self.0.as_ptr(), FEEDER, found.as_mut_ptr(), PLACES) };
+    pub fn end(&self) -> (u32, Found) {
+        let mut found = Found::default();
+        let number = unsafe { caf_feed_end(self.0.as_ptr(), FEEDER, found.as_mut_ptr(), found.len()) };
         (number, found)
     }
 }

@@ -16,15 +16,19 @@ fn parse(file: &[u8]) -> Side<'_> {
 }
 
 fn plain(file: &[u8]) -> Side<'_> {
+    let mut found = linked::Found::default();
     repeated(move || {
-        black_box(linked::plain(black_box(file)));
+        black_box(linked::plain(black_box(file), &mut found));
+        black_box(&found);
     })
 }
 
 fn strict(file: &[u8]) -> Side<'_> {
-    assert_eq!(linked::strict(file).0, 0);
+    let mut found = linked::Found::default();
+    assert_eq!(linked::strict(file, &mut found), 0);
     repeated(move || {
-        black_box(linked::strict(black_box(file)));
+        black_box(linked::strict(black_box(file), &mut found));
+        black_box(&found);
     })
 }
 
