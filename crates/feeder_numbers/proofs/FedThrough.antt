@@ -1,4 +1,5 @@
--- The feeding record comes back from its numbers, and so the reading in blocks through C is the reading in blocks.
+-- The feeding record comes back from its numbers, and so the reading in blocks through C is the reading in blocks; and bytes that C passes over
+-- are as good as fed.
 use mathlib.Core.Path.{_≡_, refl, sym, _∙_, ap}
 use mathlib.Core.Bool.{true, _||_, true≢false}
 use mathlib.Core.List.{List, [], _∷_, _++_}
@@ -26,10 +27,12 @@ use Rattle.feeder.proofs.Facts.{Facts, sound-facts, sound-tests, fresh-sound}
 use Rattle.feeding.proofs.Soundness.{bytes-sound}
 use Rattle.feeding.proofs.Call.{feed-is}
 use Rattle.fed.proofs.Theorems.{fed-is}
+use Rattle.fed.proofs.Cut.{by-sound}
+use Rattle.fed.proofs.Passed.{passed-is-fed}
 use Rattle.numbers.specs.Words.{isWord}
 use Rattle.feeder_numbers.specs.FeederNumbers.{phaseOf, feederNumbers, feederOf, isFeeder}
-use Rattle.feeder_numbers.specs.FeederCalls.{feedOn, feederAfter, endOn}
-use Rattle.feeder_numbers.specs.FeederClaims.{feedsOn, AllBytes, FedThroughC}
+use Rattle.feeder_numbers.specs.FeederCalls.{callOn, feedOn, passOn, passableOn, feederAfter, endOn}
+use Rattle.feeder_numbers.specs.FeederClaims.{feedsOn, AllBytes, FedThroughC, PassedThroughC}
 use Rattle.numbers.proofs.FormatLaws.{again, format-back, words}
 use Rattle.feeder_numbers.proofs.FeederTyped.{TypedPhase, TypedFeeder, bytes-typed}
 
@@ -111,7 +114,7 @@ not-unsound n t k (Refused number) a e = true≢false (sym (a .1) ∙ ap (λ (x 
 -- one call on the numbers of a record, and one on the record
 module _ (r : Feeder) (s : sound r ≡ true) (t : TypedFeeder r) where
   fed-on : (block : List ℕ) → feederAfter (feederNumbers r) (feedOn (feederNumbers r) block) ≡ feederNumbers (feed r block .feeder)
-  unfolding feedOn feederAfter
+  unfolding callOn feederAfter
   fed-on block =
       let i = feed-is r block s in
       let a = bytes-sound block r (sound-facts r s) in
@@ -143,3 +146,10 @@ fresh-typed = record { long = refl; bytes = zeros 32; phase = tt }
 pub fed-through-c : FedThroughC
 fed-through-c held blocks l b =
     rw (eq-eqb _ _ l) (all-on blocks fresh (sound-tests fresh fresh-sound) fresh-typed b ∙ fed-is blocks)
+
+pub passed-through-c : PassedThroughC
+unfolding callOn passableOn
+passed-through-c held block l =
+    by-sound (passOn held (length block) ≡ feedOn held block) (isFeeder held)
+    (λ e. rw e (passed-is-fed (feederOf held) block (rw e at l)))
+    (λ e. rw e)

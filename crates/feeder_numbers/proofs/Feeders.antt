@@ -6,7 +6,7 @@ use Prim.Native.Nat.{ℕ, _<_, _^_}
 use native.Mathlib.Omega.{arith}
 use lib.Dec.{leb, eqb}
 use lib.ListN.{length, getD, take, drop}
-use borrow.Author.Tests.{eqb-true, ltb-true, eq-eqb, ne-eqb, not-true, not-false}
+use borrow.Author.Tests.{eqb-true, ltb-true, eq-eqb, not-true, not-false}
 use Rattle.answers.specs.Numbers.{badWriter}
 use Rattle.byteorder.specs.Big.{bigAt, bigBytes}
 use Rattle.byteorder.specs.Splice.{splice, storeFirst}
@@ -15,7 +15,6 @@ use Rattle.byteorder.proofs.Laws.{length-splice, more}
 use Rattle.feeder.specs.declared.Phase.{Phase}
 use Rattle.feeder.specs.declared.Phase.the-variants.{FileHeader, FirstHeader, Desc, Header, Skipping, Edit, OpenData, ClosedData, Refused}
 use Rattle.feeder.specs.declared.Feeder.{Feeder}
-use Rattle.feeding.specs.Feed.{feed}
 use Rattle.feeding.specs.declared.Fed.{Fed}
 use Rattle.reading.proofs.Choice.{both}
 use Rattle.numbers.specs.Words.{at, low, isWord, allWords}
@@ -23,7 +22,7 @@ use Rattle.numbers.specs.FormatNumbers.{audioOf, audioLow}
 use Rattle.numbers.specs.Lent.{putAt}
 use Rattle.feeder_numbers.specs.FeederNumbers.{feederPlaces, phaseKind, phaseFormat, phaseNumber, phaseSize, phaseStart, feederNumbers, feederOf, isFeeder, heldFeeder}
 use Rattle.feeder_numbers.specs.declared.HeldFeeder.{HeldFeeder}
-use Rattle.feeder_numbers.specs.FeederCalls.{feedOn, feederAfter, FeedCall}
+use Rattle.feeder_numbers.specs.FeederCalls.{callOn, feederAfter, FeederCall}
 use Rattle.numbers.proofs.Puts.{put-fits, whole}
 use Rattle.numbers.proofs.WordLaws.{low-word, audio-words}
 
@@ -115,17 +114,13 @@ feeder-held held e n =
     let s : isFeeder held ≡ true = sym (ap (λ (x : HeldFeeder). x .stands) e) ∙ not-false _ n in
     (s, ap (λ (x : HeldFeeder). x .feeder) e ∙ rw s)
 
-module _ (held block : List ℕ) where
-  -- the three ways of a feeding call
-  pub none-fed : isFeeder held ≡ false → FeedCall held block badWriter held
-  unfolding feedOn feederAfter
-  none-fed e = record { number = rw e; kept = rw e }
+-- the two ways of a call on the record
+module _ (held : List ℕ) (call : Feeder → Fed) where
+  pub none-called : isFeeder held ≡ false → FeederCall held (callOn held call) badWriter held
+  unfolding callOn feederAfter
+  none-called e = record { number = rw e; kept = rw e }
 
-  module _ (is : isFeeder held ≡ true) (fed : Fed) (e : fed ≡ feed (feederOf held) block) where
-    pub unsound-fed : fed .number ≡ badWriter → FeedCall held block (fed .number) held
-    unfolding feedOn feederAfter
-    unsound-fed n = record { number = rw (is, ← e); kept = rw (is, ← e, eq-eqb _ _ n) }
-
-    pub was-fed : (after : List ℕ) → (fed .number ≡ badWriter → ⊥) → after ≡ feederNumbers (fed .feeder) → FeedCall held block (fed .number) after
-    unfolding feedOn feederAfter
-    was-fed after n k = record { number = rw (is, ← e); kept = rw (is, ← e, ne-eqb _ _ n) k }
+  pub feeder-called : {fed : Fed} {r : ℕ} {after : List ℕ} → isFeeder held ≡ true → fed ≡ call (feederOf held) → r ≡ fed .number → after ≡ feederAfter held fed
+      → FeederCall held (callOn held call) r after
+  unfolding callOn
+  feeder-called e p n k = record { number = rw e (n ∙ ap (λ (x : Fed). x .number) p); kept = rw e (k ∙ ap (feederAfter held) p) }

@@ -1,12 +1,12 @@
--- Document 02, T-01: what is to be proved of the reading in blocks as C uses it. The proof stands in proofs/FedThrough.
+-- Document 02, T-01: what is to be proved of the reading in blocks as C uses it. The proofs stand in proofs/FedThrough.
 use mathlib.Core.Path.{_≡_}
-use Prim.Native.Nat.{ℕ}
+use Prim.Native.Nat.{ℕ, _≤_}
 use mathlib.Core.List.{List, [], _∷_, flatten}
 use lib.ListN.{length}
 use Rattle.reading.specs.Claims.{Bytes}
 use Rattle.fed.specs.Answer.{fedAnswer}
 use Rattle.feeder_numbers.specs.FeederNumbers.{feederPlaces}
-use Rattle.feeder_numbers.specs.FeederCalls.{beginRecord, feedOn, feederAfter, endOn}
+use Rattle.feeder_numbers.specs.FeederCalls.{beginRecord, feedOn, passOn, passableOn, feederAfter, endOn}
 
 -- one block after the other, on the array that the caller keeps
 unfoldable pub feedsOn : List ℕ → List (List ℕ) → List ℕ
@@ -24,3 +24,7 @@ abbrev pub FedThroughC : Type 0
 FedThroughC =
     (held : List ℕ) (blocks : List (List ℕ)) → length held ≡ feederPlaces → AllBytes blocks
     → endOn (feedsOn (beginRecord held) blocks) ≡ fedAnswer (flatten blocks)
+
+-- bytes that may be passed over need not be read: passing over them is feeding them, whatever they are
+abbrev pub PassedThroughC : Type 0
+PassedThroughC = (held block : List ℕ) → length block ≤ passableOn held → passOn held (length block) ≡ feedOn held block
