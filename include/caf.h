@@ -7,8 +7,8 @@
  * nothing else may change them while the call runs. Every call takes any contents and any count that an
  * array can have: elements times their size stay below 2^63 bytes.
  *
- * Every call gives back a number: CAF_DONE, or the refusal that applies first. "Numbers" below are all
- * the refusals that a call gives, in the order in which it tests for them; docs/FORMAT.md says of each
+ * Every call but caf_feed_passable gives back a number: CAF_DONE, or the refusal that applies first.
+ * "Numbers" below are all the refusals that a call gives, in the order in which it tests for them; docs/FORMAT.md says of each
  * when it applies. No call takes more than CAF_STACK bytes of stack. */
 #ifndef CAF_H
 #define CAF_H
@@ -128,6 +128,20 @@ uint32_t caf_read_strict(const uint8_t *file, size_t file_len, uint64_t *out, si
  *
  * (A read that fails is not the end of a film: look at n before caf_feed_end is believed.)
  *
+ * Whoever can move on in a file of `length` bytes reads little more than its chunk headers:
+ *
+ *     for (at = 0; at < length; at += (uint64_t)n) {
+ *         skip = caf_feed_passable(feeder, CAF_FEEDER);
+ *         skip = skip < length - at ? skip : length - at;
+ *         caf_feed_pass(feeder, CAF_FEEDER, skip);
+ *         at = (uint64_t)lseek(fd, (off_t)skip, SEEK_CUR);
+ *         if ((n = read(fd, block, sizeof block)) <= 0 ||
+ *             caf_feed(feeder, CAF_FEEDER, block, (size_t)n) != CAF_DONE)
+ *             break;
+ *     }
+ *
+ * Bytes passed over count as fed, so that none may be after the end of the file.
+ *
  * The caller keeps the feeding record, CAF_FEEDER numbers. They are the library's own: the places are
  * named for tests. An array of another length, or one whose numbers contradict each other
  * (docs/DECISIONS.md lists what is tested), is an unsound record: CAF_BAD_WRITER, and the array keeps
@@ -158,6 +172,16 @@ uint32_t caf_feed_begin(uint64_t *feeder, size_t feeder_len);
  *
  * Numbers: 19; 2, 6 for the file header; then chunk by chunk 7, 23, 4, 5; 21. */
 uint32_t caf_feed(uint64_t *feeder, size_t feeder_len, const uint8_t *block, size_t block_len);
+
+/* How many of the next bytes nothing depends on: the rest of a chunk that is skipped or of the audio. 0
+ * where the next byte is looked at, after a refusal, and for an unsound record. Only reads. */
+uint64_t caf_feed_passable(const uint64_t *feeder, size_t feeder_len);
+
+/* As if n bytes were fed that are not at hand. With n above caf_feed_passable only so many are passed
+ * over. Writes the next record.
+ *
+ * Numbers: 19; what a block gave, 2, 6, 7, 23, 4, 5 or 21. */
+uint32_t caf_feed_pass(uint64_t *feeder, size_t feeder_len, uint64_t n);
 
 /* The answer for all that was fed; fills out as caf_read_strict does. The record is only read, so
  * that more may be fed afterwards, and a second end answers the same. An unsound record:

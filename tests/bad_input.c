@@ -374,6 +374,19 @@ static void tails(void) {
     }
 }
 
+/* Passing over any number of bytes with a record of any numbers: it moves on by as many as may be passed over, an unsound one by none. */
+static void passing(uint64_t *feeder, size_t len, bool unsound) {
+    uint64_t *before = copy_of(feeder, len * sizeof *feeder), n = next() >> (next() % 64), most = caf_feed_passable(feeder, len);
+    uint32_t number = caf_feed_pass(feeder, len, n);
+
+    HOLDS((number == CAF_BAD_WRITER) == unsound && (!unsound || most == 0));
+    if (unsound)
+        HOLDS(memcmp(feeder, before, len * sizeof *feeder) == 0);
+    else
+        HOLDS(feeder[CAF_FEEDER_TOTAL] == before[CAF_FEEDER_TOTAL] + (n < most ? n : most));
+    free(before);
+}
+
 /* The example fed, and the feeding record with no elements, with a place too few or too many, and made up. */
 static void feeders(void) {
     static const uint8_t front[20] = {'c', 'a', 'f', 'f', 0, 1, 0, 0, 'd', 'e', 's', 'c', 0, 0, 0, 0, 0, 0, 0, 32};
@@ -388,6 +401,7 @@ static void feeders(void) {
     HOLDS(caf_feed_begin(NULL, 0) == CAF_BAD_WRITER);
     HOLDS(caf_feed_begin(feeder, CAF_FEEDER - 1) == CAF_BAD_WRITER);
     HOLDS(caf_feed(NULL, 0, bytes, 5) == CAF_BAD_WRITER);
+    HOLDS(caf_feed_passable(NULL, 0) == 0 && caf_feed_pass(NULL, 0, 5) == CAF_BAD_WRITER);
     HOLDS(caf_feed_end(NULL, 0, out, CAF_STRICT_PLACES) == CAF_BAD_WRITER && out[0] == 0 && out[1] == 0xEEEEEEEEEEEEEEEEu);
     HOLDS(caf_feed_end(NULL, 0, NULL, 0) == CAF_NO_ROOM);
     HOLDS(caf_feed_begin(feeder, CAF_FEEDER) == CAF_DONE);
@@ -398,14 +412,19 @@ static void feeders(void) {
     HOLDS(caf_feed_end(feeder, CAF_FEEDER, out, CAF_STRICT_PLACES) == CAF_CUT_SHORT && out[0] == 1);
     feeder[CAF_FEEDER_CHUNKS] = 2;
     HOLDS(caf_feed(feeder, CAF_FEEDER, front, 20) == CAF_BAD_WRITER && feeder[CAF_FEEDER_TOTAL] == 20);
+    HOLDS(caf_feed_passable(feeder, CAF_FEEDER) == 0 && caf_feed_pass(feeder, CAF_FEEDER, 5) == CAF_BAD_WRITER && feeder[CAF_FEEDER_TOTAL] == 20);
 
     /* an open film up to the last byte that a file may have, and one more */
     HOLDS(caf_feed_begin(feeder, CAF_FEEDER) == CAF_DONE);
     HOLDS(caf_feed(feeder, CAF_FEEDER, open_film, sizeof open_film) == CAF_DONE && feeder[CAF_FEEDER_TOTAL] == sizeof open_film);
-    feeder[CAF_FEEDER_TOTAL] = INT64_MAX - 1;
+    HOLDS(caf_feed_passable(feeder, CAF_FEEDER) == INT64_MAX - sizeof open_film);
+    feeder[CAF_FEEDER_TOTAL] = INT64_MAX - 2;
+    HOLDS(caf_feed_pass(feeder, CAF_FEEDER, 1) == CAF_DONE && feeder[CAF_FEEDER_TOTAL] == INT64_MAX - 1);
     HOLDS(caf_feed(feeder, CAF_FEEDER, bytes, 1) == CAF_DONE && feeder[CAF_FEEDER_TOTAL] == INT64_MAX);
     HOLDS(caf_feed_end(feeder, CAF_FEEDER, out, CAF_STRICT_PLACES) == CAF_DONE && out[CAF_STRICT_PAYLOAD] == INT64_MAX - sizeof open_film);
+    HOLDS(caf_feed_passable(feeder, CAF_FEEDER) == 0 && caf_feed_pass(feeder, CAF_FEEDER, UINT64_MAX) == CAF_DONE && feeder[CAF_FEEDER_TOTAL] == INT64_MAX);
     HOLDS(caf_feed(feeder, CAF_FEEDER, bytes, 1) == CAF_TOO_LONG);
+    HOLDS(caf_feed_passable(feeder, CAF_FEEDER) == 0 && caf_feed_pass(feeder, CAF_FEEDER, 1) == CAF_TOO_LONG);
     HOLDS(caf_feed_end(feeder, CAF_FEEDER, out, CAF_STRICT_PLACES) == CAF_TOO_LONG);
 
     for (round = 0; round < 2000; round++) {
@@ -430,6 +449,7 @@ static void feeders(void) {
         if (number == CAF_BAD_WRITER)
             HOLDS(memcmp(made, kept, len * sizeof *made) == 0);
         HOLDS((caf_feed_end(kept, len, out, CAF_STRICT_PLACES) == CAF_BAD_WRITER) == (number == CAF_BAD_WRITER));
+        passing(kept, len, number == CAF_BAD_WRITER);
         free(made);
         free(kept);
     }

@@ -226,6 +226,11 @@ static uint32_t feed(const struct file *file, unsigned faults) {
     return caf_feed(feeder, faults & LENGTH ? CAF_FEEDER - 1 : CAF_FEEDER, contents(file), file->len);
 }
 
+static uint32_t feed_pass(const struct file *file, unsigned faults) {
+    feed(file, NONE);
+    return caf_feed_pass(feeder, faults & LENGTH ? CAF_FEEDER - 1 : CAF_FEEDER, 1);
+}
+
 static uint32_t feed_end(const struct file *file, unsigned faults) {
     feed(file, NONE);
     return caf_feed_end(feeder, faults & LENGTH ? CAF_FEEDER - 1 : CAF_FEEDER, out, places(faults, CAF_STRICT_PLACES));
@@ -315,12 +320,12 @@ static void begin_reading(const char *name, reading call, const order before) {
 }
 
 /* One byte more than a file may have. */
-static void too_long(bool end) {
+static void too_long(void) {
     HOLDS(feed(&(struct file)FILE_OF(CAF_DONE, CAFF DESC "data\xff\xff\xff\xff\xff\xff\xff\xff\0\0\0\0"), NONE) == CAF_DONE);
     feeder[CAF_FEEDER_TOTAL] = INT64_MAX;
     HOLDS(caf_feed(feeder, CAF_FEEDER, bytes, 1) == CAF_TOO_LONG);
-    if (end)
-        HOLDS(caf_feed_end(feeder, CAF_FEEDER, out, CAF_STRICT_PLACES) == CAF_TOO_LONG);
+    HOLDS(caf_feed_pass(feeder, CAF_FEEDER, 1) == CAF_TOO_LONG);
+    HOLDS(caf_feed_end(feeder, CAF_FEEDER, out, CAF_STRICT_PLACES) == CAF_TOO_LONG);
     printf(" %u", CAF_TOO_LONG);
 }
 
@@ -335,10 +340,13 @@ static void readings(void) {
     show(&(const struct row){"caf_feed_begin", feed_begin, {LENGTH}}, 1);
     begin_reading("caf_feed", feed, record_first);
     show_files(feed, record_first, block_files, COUNT(block_files));
-    too_long(false);
+    too_long();
+    begin_reading("\ncaf_feed_pass", feed_pass, record_first);
+    show_files(feed_pass, record_first, block_files, COUNT(block_files));
+    too_long();
     begin_reading("\ncaf_feed_end", feed_end, end_first);
     show_files(feed_end, end_first, block_files, COUNT(block_files));
-    too_long(true);
+    too_long();
     show_files(feed_end, end_first, end_files, COUNT(end_files));
     printf("\n");
 }

@@ -73,7 +73,7 @@ static void strict_places(void) {
     HOLDS(out[CAF_STRICT_PAYLOAD] == PAYLOAD && out[CAF_STRICT_FRAMES] == FRAMES);
 }
 
-/* Up to nine bytes into the header of the data chunk, then into the data, then all. */
+/* Up to nine bytes into the header of the data chunk, then into the data, then past five bytes, then all. */
 static void fed(void) {
     enum { HELD = 9, CUT = SIZE - 4 + HELD, LEFT = 20 };
     uint64_t feeder[CAF_FEEDER];
@@ -85,7 +85,9 @@ static void fed(void) {
     HOLDS(feeder[CAF_FEEDER_HELD] == (uint64_t)0x64617461 << 32);
     HOLDS(caf_feed(feeder, CAF_FEEDER, film + CUT, LENGTH - CUT - LEFT) == CAF_DONE);
     HOLDS(feeder[CAF_FEEDER_NUMBER] == LEFT && feeder[CAF_FEEDER_SIZE] == PAYLOAD + 4 && feeder[CAF_FEEDER_START] == START);
-    HOLDS(caf_feed(feeder, CAF_FEEDER, film + LENGTH - LEFT, LEFT) == CAF_DONE);
+    HOLDS(caf_feed_passable(feeder, CAF_FEEDER) == LEFT && caf_feed_pass(feeder, CAF_FEEDER, 5) == CAF_DONE);
+    HOLDS(feeder[CAF_FEEDER_NUMBER] == LEFT - 5 && feeder[CAF_FEEDER_TOTAL] == LENGTH - LEFT + 5);
+    HOLDS(caf_feed(feeder, CAF_FEEDER, film + LENGTH - LEFT + 5, LEFT - 5) == CAF_DONE && caf_feed_passable(feeder, CAF_FEEDER) == 0);
     HOLDS(caf_feed_end(feeder, CAF_FEEDER, out, CAF_STRICT_PLACES) == CAF_DONE);
     strict_places();
     HOLDS(caf_feed(feeder, CAF_FEEDER, film + 8, 44) == CAF_BAD_DESC && feeder[CAF_FEEDER_PHASE] == 7 && feeder[CAF_FEEDER_NUMBER] == CAF_BAD_DESC);

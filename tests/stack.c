@@ -107,10 +107,11 @@ static void feeding(size_t count) {
     holds(caf_feed(feeder, CAF_FEEDER, buf, count) == CAF_DONE, "caf_feed");
 }
 
-/* at the start, inside the head, inside the `desc` body, in the data */
+/* at the start, inside the head, inside the `desc` body, where the data start, at their end */
 static void fed_0(void) { feeding(0); }
 static void fed_3(void) { feeding(3); }
 static void fed_30(void) { feeding(30); }
+static void fed_header(void) { feeding((closed(), LENGTH - sizeof data)); }
 static void fed_all(void) { feeding((closed(), LENGTH)); }
 
 /* ---- the calls */
@@ -120,6 +121,8 @@ static uint32_t parse(void) { return caf_parse(buf, LENGTH, out, CAF_STRICT_PLAC
 static uint32_t strict(void) { return caf_read_strict(buf, LENGTH, out, CAF_STRICT_PLACES); }
 static uint32_t feed_begin(void) { return caf_feed_begin(feeder, CAF_FEEDER); }
 static uint32_t feed(void) { return caf_feed(feeder, CAF_FEEDER, buf + feeder[CAF_FEEDER_TOTAL], LENGTH - feeder[CAF_FEEDER_TOTAL]); }
+static uint32_t passable(void) { return caf_feed_passable(feeder, CAF_FEEDER) == 12 ? CAF_DONE : CAF_CUT_SHORT; }
+static uint32_t pass(void) { return caf_feed_pass(feeder, CAF_FEEDER, 12); }
 static uint32_t feed_end(void) { return caf_feed_end(feeder, CAF_FEEDER, out, CAF_STRICT_PLACES); }
 static uint32_t layout_first(void) { return caf_layout_for_labels(first, 1, out, CAF_LAYOUT_PLACES); }
 static uint32_t layout_last(void) { return caf_layout_for_labels(last, 8, out, CAF_LAYOUT_PLACES); }
@@ -162,6 +165,8 @@ static const struct row {
     {"caf_feed", fed_3, feed},
     {"caf_feed", fed_30, feed},
     {"caf_feed", fed_all, feed},
+    {"caf_feed_passable", fed_header, passable},
+    {"caf_feed_pass", fed_header, pass},
     {"caf_feed_end", fed_all, feed_end},
     {"caf_layout_for_labels", fresh, layout_first},
     {"caf_layout_for_labels", fresh, layout_last},
