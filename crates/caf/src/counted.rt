@@ -51,8 +51,7 @@ pub extern "C" fn caf_write_header_counted(
     if !kept.stands {
         return tell(out, no_count());
     }
-    let writer = kept.writer;
-    let done = writer.write_header_counted(buf, n as usize);
+    let done = kept.writer.write_header_counted(buf, n as usize);
     tell(out, done)
 }
 
@@ -73,8 +72,7 @@ pub extern "C" fn caf_write_data_counted(
     if !kept.stands {
         return tell(out, no_count());
     }
-    let writer = kept.writer;
-    let done = writer.write_data_counted(buf, bytes, n as usize);
+    let done = kept.writer.write_data_counted(buf, bytes, n as usize);
     tell(out, done)
 }
 
@@ -95,8 +93,8 @@ pub extern "C" fn caf_write_samples_counted(
     if !kept.stands {
         return tell(out, no_count());
     }
-    let writer = kept.writer;
-    let done = writer.write_pcm_24bit_as_packed_counted(buf, samples, n as usize);
+    let done = kept.writer
+        .write_pcm_24bit_as_packed_counted(buf, samples, n as usize);
     tell(out, done)
 }
 
@@ -111,7 +109,6 @@ pub extern "C" fn caf_finish_counted(held: &[u64], buf: &mut [u8], n: u64, out: 
     if !kept.stands {
         return tell(out, no_count());
     }
-    let writer = kept.writer;
-    let done = writer.finish_counted(buf, n as usize);
+    let done = kept.writer.finish_counted(buf, n as usize);
     tell(out, done)
 }

@@ -23,10 +23,10 @@ pub extern "C" fn caf_set_format(
     if !kept.stands {
         return BAD_WRITER;
     }
-    let writer = kept.writer;
     let data_type = sample_type(is_float);
     let endianness = byte_order(little_endian);
-    let wrote = writer.set_audio_format_with_options(rate, channels, bits, data_type, endianness);
+    let wrote = kept.writer
+        .set_audio_format_with_options(rate, channels, bits, data_type, endianness);
     keep(held, wrote)
 }
 
@@ -38,8 +38,7 @@ pub extern "C" fn caf_set_layout_tag(held: &mut [u64], tag: u32) -> u32
     if !kept.stands {
         return BAD_WRITER;
     }
-    let writer = kept.writer;
-    let wrote = writer.set_channel_layout_tag(tag);
+    let wrote = kept.writer.set_channel_layout_tag(tag);
     keep(held, wrote)
 }
 
@@ -51,8 +50,7 @@ pub extern "C" fn caf_set_layout_for_labels(held: &mut [u64], labels: &[u32], ch
     if !kept.stands {
         return BAD_WRITER;
     }
-    let writer = kept.writer;
-    let wrote = writer.set_channel_layout_for_labels(labels, channels);
+    let wrote = kept.writer.set_channel_layout_for_labels(labels, channels);
     keep(held, wrote)
 }
 
@@ -70,7 +68,7 @@ pub extern "C" fn caf_configure_format(
     if !kept.stands {
         return BAD_WRITER;
     }
-    let writer = kept.writer;
-    let wrote = writer.configure_audio_format(rate, channels, bits, labels);
+    let wrote = kept.writer
+        .configure_audio_format(rate, channels, bits, labels);
     keep(held, wrote)
 }

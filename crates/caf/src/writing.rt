@@ -16,8 +16,7 @@ pub extern "C" fn caf_write_header(held: &mut [u64], buf: &mut [u8]) -> u32
     if !kept.stands {
         return BAD_WRITER;
     }
-    let writer = kept.writer;
-    let wrote = writer.write_header(buf);
+    let wrote = kept.writer.write_header(buf);
     keep(held, wrote)
 }
 
@@ -29,8 +28,7 @@ pub extern "C" fn caf_write_data(held: &mut [u64], buf: &mut [u8], bytes: &[u8])
     if !kept.stands {
         return BAD_WRITER;
     }
-    let writer = kept.writer;
-    let wrote = writer.write_data(buf, bytes);
+    let wrote = kept.writer.write_data(buf, bytes);
     keep(held, wrote)
 }
 
@@ -42,8 +40,7 @@ pub extern "C" fn caf_write_samples(held: &mut [u64], buf: &mut [u8], samples: &
     if !kept.stands {
         return BAD_WRITER;
     }
-    let writer = kept.writer;
-    let wrote = writer.write_pcm_24bit_as_packed(buf, samples);
+    let wrote = kept.writer.write_pcm_24bit_as_packed(buf, samples);
     keep(held, wrote)
 }
 
@@ -55,7 +52,6 @@ pub extern "C" fn caf_finish(held: &mut [u64], buf: &mut [u8]) -> u32
     if !kept.stands {
         return BAD_WRITER;
     }
-    let writer = kept.writer;
-    let wrote = writer.finish(buf);
+    let wrote = kept.writer.finish(buf);
     keep(held, wrote)
 }

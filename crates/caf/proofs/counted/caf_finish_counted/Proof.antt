@@ -40,10 +40,10 @@ same-length-3 c = search needs
 
 returns-3 : tie.Need-returns-3
 returns-3 c =
-    let a = c .before .before .before .before .before .before .before .before .before .before .before .before .before .before .before .before .args in
-    let k = record-held (a .held .now) (c .before .before .before .before .before .before .before .before .before .before .before .record-in .ensures) (c .before .before .before .before .before .before .before .before .before .if2 .left) in
+    let a = c .before .before .before .before .before .before .before .before .before .before .before .before .before .before .before .args in
+    let k = record-held (a .held .now) (c .before .before .before .before .before .before .before .before .before .before .record-in .ensures) (c .before .before .before .before .before .before .before .before .if2 .left) in
     let p = rw (k .1) at (c .before .before .before .before .before .before .finish-counted .ensures) in
-    record-counted (a .n) (a .held .now) (a .buf .now) (a .out .now) (λ (w : CAFWriter). finishCall w (length (a .buf .now))) (c .before .before .before .before .before .before .before .before .before .before .before .before .if1 .left) (c .before .before .tell2 .ensures .0) (c .before .before .tell2 .ensures .1) (k .0) (p .0) (p .1)
+    record-counted (a .n) (a .held .now) (a .buf .now) (a .out .now) (λ (w : CAFWriter). finishCall w (length (a .buf .now))) (c .before .before .before .before .before .before .before .before .before .before .before .if1 .left) (c .before .before .tell2 .ensures .0) (c .before .before .tell2 .ensures .1) (k .0) (p .0) (p .1)
 
 pub caf-finish-counted-spec : {M : Type 1} → statement M
 caf-finish-counted-spec = tie.close (tie.spec returns record-in-requires no-count-requires tell-requires same-length returns-2 finish-counted-requires tell-requires-2 same-length-2 same-length-3 returns-3)

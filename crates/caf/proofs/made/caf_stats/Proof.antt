@@ -33,11 +33,11 @@ same-length c = search needs
 
 returns-3 : tie.Need-returns-3
 returns-3 c =
-    let t = le-ltb _ _ (c .before .before .before .before .before .before .before .before .before .if1 .left) in
-    let k = record-held (c .before .before .before .before .before .before .before .before .before .before .before .before .args .held .now) (c .before .before .before .before .before .before .before .before .record-in .ensures) (c .before .before .before .before .before .before .if2 .left) in
+    let t = le-ltb _ _ (c .before .before .before .before .before .before .before .before .if1 .left) in
+    let k = record-held (c .before .before .before .before .before .before .before .before .before .before .before .args .held .now) (c .before .before .before .before .before .before .before .record-in .ensures) (c .before .before .before .before .before .if2 .left) in
     record {
       number = rw (t, k .0);
-      told = rw (t, k .0) (c .before .before .tell-stats .ensures ∙ ap (λ (x : CAFWriterStats). splice (c .before .before .before .before .before .before .before .before .before .before .before .before .args .out .now) 0 (statsNumbers x)) (c .before .before .before .before .stats .ensures ∙ ap statsOf (k .1)));
+      told = rw (t, k .0) (c .before .before .tell-stats .ensures ∙ ap (λ (x : CAFWriterStats). splice (c .before .before .before .before .before .before .before .before .before .before .before .args .out .now) 0 (statsNumbers x)) (c .before .before .before .before .stats .ensures ∙ ap statsOf (k .1)));
     }
 
 pub caf-stats-spec : {M : Type 1} → statement M

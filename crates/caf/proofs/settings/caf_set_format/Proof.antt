@@ -26,15 +26,15 @@ set-audio-format-with-options-requires : tie.Need-set-audio-format-with-options-
 set-audio-format-with-options-requires c κs = search needs
 
 keep-requires : tie.Need-keep-requires
-keep-requires c κs = is-record _ (record-held _ (c .before .before .before .before .before .before .before .record-in .ensures) (c .before .before .before .before .before .if1 .left) .0) .places
+keep-requires c κs = is-record _ (record-held _ (c .before .before .before .before .before .before .record-in .ensures) (c .before .before .before .before .if1 .left) .0) .places
 
 same-length-2 : tie.Need-same-length-2
 same-length-2 c = search needs
 
 returns-2 : tie.Need-returns-2
 returns-2 c =
-    let a = c .before .before .before .before .before .before .before .before .before .before .before .before .before .args in
-    let k = record-held (a .held .now) (c .before .before .before .before .before .before .before .before .before .before .record-in .ensures) (c .before .before .before .before .before .before .before .before .if1 .left) in
+    let a = c .before .before .before .before .before .before .before .before .before .before .before .before .args in
+    let k = record-held (a .held .now) (c .before .before .before .before .before .before .before .before .before .record-in .ensures) (c .before .before .before .before .before .before .before .if1 .left) in
     let p = rw (k .1, c .before .before .before .before .before .before .sample-type .ensures, c .before .before .before .before .before .byte-order .ensures) at (c .before .before .before .before .set-audio-format-with-options .ensures) in
     record-set (a .held .now) (λ (w : CAFWriter). formatCall w (a .rate) (a .channels) (a .bits) (sampleType (a .is-float)) (byteOrder (a .little-endian))) (k .0) p (c .before .before .keep .ensures .0) (c .before .before .keep .ensures .1)
 

@@ -20,7 +20,7 @@ write-pcm-24bit-as-packed-requires : tie.Need-write-pcm-24bit-as-packed-requires
 write-pcm-24bit-as-packed-requires c κs = search needs
 
 keep-requires : tie.Need-keep-requires
-keep-requires c κs = is-record _ (record-held _ (c .before .before .before .before .before .before .before .before .record-in .ensures) (c .before .before .before .before .before .before .if1 .left) .0) .places
+keep-requires c κs = is-record _ (record-held _ (c .before .before .before .before .before .before .before .record-in .ensures) (c .before .before .before .before .before .if1 .left) .0) .places
 
 same-length-2 : tie.Need-same-length-2
 same-length-2 c = search needs
@@ -30,8 +30,8 @@ same-length-3 c = search needs
 
 returns-2 : tie.Need-returns-2
 returns-2 c =
-    let a = c .before .before .before .before .before .before .before .before .before .before .before .before .before .before .before .args in
-    let k = record-held (a .held .now) (c .before .before .before .before .before .before .before .before .before .before .before .record-in .ensures) (c .before .before .before .before .before .before .before .before .before .if1 .left) in
+    let a = c .before .before .before .before .before .before .before .before .before .before .before .before .before .before .args in
+    let k = record-held (a .held .now) (c .before .before .before .before .before .before .before .before .before .before .record-in .ensures) (c .before .before .before .before .before .before .before .before .if1 .left) in
     let p = rw (k .1) at (c .before .before .before .before .before .before .write-pcm-24bit-as-packed .ensures) in
     record-called (a .held .now) (λ (w : CAFWriter). samplesCall w (length (a .buf .now)) (a .samples .now)) (k .0) (p .0) (c .before .before .keep .ensures .0) (c .before .before .keep .ensures .1) (a .buf .now) (p .1)
 
