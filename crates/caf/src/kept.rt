@@ -15,7 +15,6 @@ pub(crate) fn keep(held: &mut [u64], wrote: Wrote) -> u32
     if number != DONE {
         return number;
     }
-    let writer = wrote.writer;
-    put_record(held, writer);
+    put_record(held, wrote.writer);
     number
 }

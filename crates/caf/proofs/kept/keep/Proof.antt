@@ -17,7 +17,7 @@ same-length c = search needs
 
 returns-2 : tie.Need-returns-2
 unfolding recordAfter
-returns-2 c = (refl, rw (eq-eqb _ _ (c .before .before .before .before .before .if1 .left)) (rw (eq-eqb _ _ (c .before .before .before .before .before .before .before .pre)) at (c .before .before .put-record .ensures)))
+returns-2 c = (refl, rw (eq-eqb _ _ (c .before .before .before .before .if1 .left)) (rw (eq-eqb _ _ (c .before .before .before .before .before .before .pre)) at (c .before .before .put-record .ensures)))
 
 pub keep-spec : {M : Type 1} → statement M
 keep-spec = tie.close (tie.spec returns put-record-requires same-length returns-2)
