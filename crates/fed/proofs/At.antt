@@ -26,7 +26,7 @@ use Rattle.feeder.specs.declared.DataChunk.{DataChunk}
 use Rattle.feeder.specs.declared.DataChunk.the-variants.{Ahead, Passed}
 use Rattle.feeder.specs.declared.Feeder.{Feeder}
 use Rattle.feeding.specs.Feed.{isRefused}
-use Rattle.fed.proofs.Piece.{Holds}
+use Rattle.feeding.proofs.Piece.{Holds}
 
 -- the step over a body, and the step at a data chunk after its size and after its edit count
 abbrev pub overBody : List ℕ → ℕ → Step

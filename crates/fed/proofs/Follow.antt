@@ -35,7 +35,7 @@ use Rattle.feeder.specs.declared.Feeder.{Feeder}
 use Rattle.judging.specs.Judge.{skipping, judgedData, judgedHeader, begunData, judged}
 use Rattle.feeding.specs.Feed.{counted, collected, fills, took, isRefused}
 use Rattle.feeding.specs.Turns.{wanted}
-use Rattle.fed.proofs.Piece.{Holds, holds-none, holds-as, holds-more, stands-same, stands-front, size-same, rate-same, format-same}
+use Rattle.feeding.proofs.Piece.{Holds, holds-none, holds-as, holds-more, stands-same, stands-front, size-same, rate-same, format-same}
 use Rattle.fed.proofs.At.{At, AtBody, AtDesc, AtEdit, AtFile, AtFirst, AtHeader, AtOpen, Follows, Known, closing, fromEdit, overBody, rulesFor, stepped, walked}
 
 -- a possible size has room for the edit count

@@ -1,4 +1,3 @@
-pub mod Piece
 pub mod At
 pub mod Follow
 pub mod Whole

@@ -29,7 +29,7 @@ use Rattle.feeder.specs.declared.DataChunk.{DataChunk}
 use Rattle.feeder.specs.declared.DataChunk.the-variants.{Ahead, Passed}
 use Rattle.feeder.specs.declared.Feeder.{Feeder}
 use Rattle.feeding.specs.Feed.{isRefused, step1, feedBytes}
-use Rattle.fed.proofs.Piece.{holds-none}
+use Rattle.feeding.proofs.Piece.{holds-none}
 use Rattle.fed.proofs.At.{At, Follows, Known, rulesFor, walked}
 use Rattle.fed.proofs.Follow.{walks, byte-on}
 

@@ -3,7 +3,7 @@ use Prim.Native.Nat.{_-_}
 use native.Mathlib.Omega.{arith}
 use lib.ListN.{length}
 use borrow.Author.Needs.{needs}
-use Rattle.feeding.proofs.InTurns.{Turned, some, asks, one-turn, all-turned}
+use Rattle.feeding.proofs.InTurns.{Turned, past-asks, past-on, some, asks, one-turn, all-turned}
 use Rattle.feeder.proofs.Facts.{sound-facts}
 use Rattle.feeding.proofs.feed.in_turns.Statement.{statement}
 use Rattle.feeding.proofs.feed.in_turns.Tie as tie
@@ -17,14 +17,32 @@ abbrev μ-loop : tie.MeasureT-loop
 loop-holds : tie.Need-loop-holds Inv-loop μ-loop
 loop-holds c = let a = c .before .args in let l : length (a .r .held) ≡ 32 = search needs in record { within = omega arith; sound = sound-facts (a .r) (c .before .pre .0); room = l; limit = omega (arith, c .before .pre .1); same = refl }
 
+sub-past-chunks : tie.Need-sub-past-chunks Inv-loop μ-loop
+sub-past-chunks c = search needs
+
+part-past-chunks-start : tie.Need-part-past-chunks-start Inv-loop μ-loop
+part-past-chunks-start c = search needs
+
+part-past-chunks-end : tie.Need-part-past-chunks-end Inv-loop μ-loop
+part-past-chunks-end c = search needs
+
+past-chunks-requires : tie.Need-past-chunks-requires Inv-loop μ-loop
+past-chunks-requires c κs = past-asks _ _ _ _ (c .before .before .loop .inv)
+
+sub-i : tie.Need-sub-i Inv-loop μ-loop
+sub-i c = let a = c .before .before .past-chunks .ensures in omega (arith, a .ahead)
+
+add-i : tie.Need-add-i Inv-loop μ-loop
+add-i c = let p = past-on _ _ _ _ (c .before .before .before .before .before .loop .inv) _ (c .before .before .before .before .loop-test .taken) (c .before .before .past-chunks .ensures) in omega (arith, p .1)
+
 sub-takes : tie.Need-sub-takes Inv-loop μ-loop
-sub-takes c = search needs
+sub-takes c = let p = past-on _ _ _ _ (c .before .before .before .before .before .loop .inv) _ (c .before .before .before .before .loop-test .taken) (c .before .before .past-chunks .ensures) in omega (arith, p .1)
 
 takes-requires : tie.Need-takes-requires Inv-loop μ-loop
-takes-requires c κs = let l = c .before .loop .inv .sound .few in omega arith
+takes-requires c κs = let p = past-on _ _ _ _ (c .before .before .before .before .before .loop .inv) _ (c .before .before .before .before .loop-test .taken) (c .before .before .past-chunks .ensures) in let l = p .0 .sound .few in omega arith
 
 add-took : tie.Need-add-took Inv-loop μ-loop
-add-took c = let s = some _ _ _ _ (c .before .before .loop .inv) (c .before .loop-test .taken) in omega (arith, s .1, c .takes .ensures)
+add-took c = let p = past-on _ _ _ _ (c .before .before .before .before .before .before .loop .inv) _ (c .before .before .before .before .before .loop-test .taken) (c .before .before .before .past-chunks .ensures) in let s = some _ _ _ _ (p .0) (p .1) in omega (arith, s .1, c .takes .ensures)
 
 sub-took : tie.Need-sub-took Inv-loop μ-loop
 sub-took c = search needs
@@ -33,19 +51,19 @@ part-took-start : tie.Need-part-took-start Inv-loop μ-loop
 part-took-start c = search needs
 
 part-took-end : tie.Need-part-took-end Inv-loop μ-loop
-part-took-end c = let s = some _ _ _ _ (c .before .before .loop .inv) (c .before .loop-test .taken) in omega (arith, s .1, c .takes .ensures)
+part-took-end c = let p = past-on _ _ _ _ (c .before .before .before .before .before .before .loop .inv) _ (c .before .before .before .before .before .loop-test .taken) (c .before .before .before .past-chunks .ensures) in let s = some _ _ _ _ (p .0) (p .1) in omega (arith, s .1, c .takes .ensures)
 
 took-requires : tie.Need-took-requires Inv-loop μ-loop
-took-requires c κs = asks _ _ _ _ (c .before .before .before .loop .inv) (c .before .before .loop-test .taken) _ (c .before .takes .ensures)
+took-requires c κs = let p = past-on _ _ _ _ (c .before .before .before .before .before .before .before .loop .inv) _ (c .before .before .before .before .before .before .loop-test .taken) (c .before .before .before .before .past-chunks .ensures) in asks _ _ _ _ (p .0) (p .1) _ (c .before .takes .ensures)
 
-add-i : tie.Need-add-i Inv-loop μ-loop
-add-i c = let s = some _ _ _ _ (c .before .before .before .before .loop .inv) (c .before .before .before .loop-test .taken) in omega (arith, s .1, c .before .before .takes .ensures)
+add-i-2 : tie.Need-add-i-2 Inv-loop μ-loop
+add-i-2 c = let p = past-on _ _ _ _ (c .before .before .before .before .before .before .before .before .loop .inv) _ (c .before .before .before .before .before .before .before .loop-test .taken) (c .before .before .before .before .before .past-chunks .ensures) in let s = some _ _ _ _ (p .0) (p .1) in omega (arith, s .1, c .before .before .takes .ensures)
 
 loop-less : tie.Need-loop-less Inv-loop μ-loop
-loop-less c = let s = some _ _ _ _ (c .before .before .before .before .loop .inv) (c .before .before .before .loop-test .taken) in omega (arith, s .0, s .1, c .before .before .takes .ensures)
+loop-less c = let p = past-on _ _ _ _ (c .before .before .before .before .before .before .before .before .loop .inv) _ (c .before .before .before .before .before .before .before .loop-test .taken) (c .before .before .before .before .before .past-chunks .ensures) in let s = some _ _ _ _ (p .0) (p .1) in omega (arith, s .0, s .1, c .before .before .takes .ensures)
 
 loop-again : tie.Need-loop-again Inv-loop μ-loop
-loop-again c = one-turn _ _ _ _ (c .before .before .before .before .loop .inv) (c .before .before .before .loop-test .taken) _ _ (c .before .before .takes .ensures) (c .took .ensures)
+loop-again c = let p = past-on _ _ _ _ (c .before .before .before .before .before .before .before .before .loop .inv) _ (c .before .before .before .before .before .before .before .loop-test .taken) (c .before .before .before .before .before .past-chunks .ensures) in one-turn _ _ _ _ (p .0) (p .1) _ _ (c .before .before .takes .ensures) (c .took .ensures)
 
 returns : tie.Need-returns Inv-loop μ-loop
 returns c = all-turned _ _ _ _ (c .before .loop .inv) (c .loop-test .left)
@@ -57,6 +75,12 @@ in-turns-spec =
     Inv-loop
     μ-loop
     loop-holds
+    sub-past-chunks
+    part-past-chunks-start
+    part-past-chunks-end
+    past-chunks-requires
+    sub-i
+    add-i
     sub-takes
     takes-requires
     add-took
@@ -64,7 +88,7 @@ in-turns-spec =
     part-took-start
     part-took-end
     took-requires
-    add-i
+    add-i-2
     loop-less
     loop-again
     returns)
