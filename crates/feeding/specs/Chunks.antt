@@ -29,13 +29,14 @@ abbrev pub chunkAt : List ℕ → ℕ → ℕ
 chunkAt s zero = 0
 chunkAt s (suc n) = chunkAt s n + wholeAt s (chunkAt s n)
 
--- as many as there are: the last comes where no other is whole
+-- all of them: after them none is whole
 pub record Walked (s : List ℕ) (w : Walk) : Type 0 where
   pub to : w .to ≡ chunkAt s (w .chunks)
   pub last : w .last ≡ chunkAt s (w .chunks - 1)
   pub whole : (m : ℕ) → m < w .chunks → 0 < wholeAt s (chunkAt s m)
   pub end : wholeAt s (w .to) ≡ 0
 
+-- a chunk header is due
 abbrev pub isHeader : Phase → Bool
 isHeader FileHeader = false
 isHeader FirstHeader = false

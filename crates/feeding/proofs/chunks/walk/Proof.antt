@@ -2,7 +2,6 @@ use mathlib.Core.Path.{_≡_, refl, sym, _∙_}
 use Prim.Native.Nat.{_-_}
 use native.Mathlib.Omega.{arith}
 use lib.ListN.{length}
-use borrow.Author.Needs.{needs}
 use Rattle.feeding.specs.Chunks.{chunkAt}
 use Rattle.feeding.proofs.WholeChunks.{Whole, lies, next}
 use Rattle.feeding.proofs.chunks.walk.Statement.{statement}
