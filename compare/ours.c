@@ -119,7 +119,7 @@ static uint8_t room[MOST_BYTES];
 static size_t room_length;
 /* the file, as the last call left it */
 static size_t length;
-/* the longest file so far: no byte behind it may have been written */
+/* the longest file so far: no byte after it may have been written */
 static size_t longest;
 
 #define RECORD record, CAF_RECORD

@@ -1,5 +1,5 @@
 /* Every exported call with slices of no elements, with room one short, and with records of random numbers, the writer's and the feeder's. What is held: the number
- * is one of the table's and, where it is told here, the right one; a refused call leaves every place that it was lent as it was;
+ * is one of the table's and, where it is given here, the right one; a refused call leaves every place that it was lent as it was;
  * places after a result keep their contents. Under valgrind it also shows that no other byte is touched. */
 #include <math.h>
 

@@ -13,7 +13,7 @@ import sys
 
 DONE, NO_ROOM, ODD_LENGTH = 0, 14, 20
 BIG, LITTLE = 'big', 'little'
-# what the program lends its room filled with, so that places behind a result show that they kept their contents
+# what the program lends its room filled with, so that places after a result show that they kept their contents
 BYTE, SAMPLE = 0xEE, 7
 
 

@@ -60,7 +60,7 @@ pub fn pieces() -> Vec<Vec<u8>> {
     ]
 }
 
-/// Every join of at most `most` pieces behind the head.
+/// Every join of at most `most` pieces after the head.
 pub fn joined(head: &[u8], most: usize, visit: &mut impl FnMut(Vec<u8>)) {
     fn grow(file: Vec<u8>, left: usize, pieces: &[Vec<u8>], visit: &mut impl FnMut(Vec<u8>)) {
         if left > 0 {
@@ -163,7 +163,7 @@ pub fn tailed(random: &mut Random) -> Vec<u8> {
     file
 }
 
-/// A file of random chunks behind a head that is most often good.
+/// A file of random chunks after a head that is most often good.
 pub fn wild(random: &mut Random) -> Vec<u8> {
     let mut file = if random.one_in(10) { random.pick(&HEADS) } else { HEADS[0] }.to_vec();
     for _ in 0..random.below(6) {

@@ -10,7 +10,7 @@ use crate::script::{self, Call, Past, Script};
 
 /// What lent places hold before a call.
 const UNTOUCHED: u64 = 0xa5a5_a5a5_a5a5_a5a5;
-/// Places behind what a script can fill.
+/// Places after what a script can fill.
 const BEYOND: usize = 16;
 
 const PLAIN_PLACES: usize = 12;

@@ -22,7 +22,7 @@ pub fn chunks_after(count: usize) -> Vec<u8> {
     [front(), chunk(b"data", 4, &[0; 4]), free_chunks(count)].concat()
 }
 
-/// 01's example, 98 bytes: two channels told by a tag, one frame.
+/// 01's example, 98 bytes: two channels named by a tag, one frame.
 pub fn example() -> Vec<u8> {
     Rust.run(&known::example_script()).pop().expect("a file").file
 }

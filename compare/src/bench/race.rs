@@ -76,7 +76,7 @@ pub enum Goal {
     Ratio(f64),
     /// at most so many nanoseconds, whatever the other side takes
     Nanoseconds(f64),
-    /// told only
+    /// reported only
     None,
 }
 
