@@ -213,29 +213,28 @@ uint64_t film_arrived(const struct film *film) {
     return film->record[CAF_RECORD_HAS_HEADER] && film->length > start ? film->length - start : 0;
 }
 
+/* Of errors that no number or errno explains. */
+static const char *plain_words(enum film_error error) {
+    switch (error) {
+    case FILM_BUSY:
+        return "someone is writing or recovering this film";
+    case FILM_NOT_A_FILE:
+        return "not a regular file";
+    case FILM_CHANGED:
+        return "another program made the file longer or shorter";
+    case FILM_STOPPED:
+        return "an earlier call failed, or the film is not open";
+    default:
+        return "no fault";
+    }
+}
+
 const char *film_words(const struct film_fault *fault, char *text, size_t room) {
-    switch (fault->error) {
-    case FILM_REFUSED:
+    if (fault->error == FILM_REFUSED)
         snprintf(text, room, "refused, number %u %s: %s", (unsigned)fault->number,
                  caf_number_name(fault->number), caf_number_words(fault->number));
-        return text;
-    case FILM_SYSTEM:
-        snprintf(text, room, "%s", strerror(fault->system));
-        return text;
-    case FILM_BUSY:
-        snprintf(text, room, "someone is writing or recovering this film");
-        return text;
-    case FILM_NOT_A_FILE:
-        snprintf(text, room, "not a regular file");
-        return text;
-    case FILM_CHANGED:
-        snprintf(text, room, "another program made the file longer or shorter");
-        return text;
-    case FILM_STOPPED:
-        snprintf(text, room, "an earlier call failed, or the film is not open");
-        return text;
-    default:
-        snprintf(text, room, "no fault");
-        return text;
-    }
+    else
+        snprintf(text, room, "%s",
+                 fault->error == FILM_SYSTEM ? strerror(fault->system) : plain_words(fault->error));
+    return text;
 }

@@ -23,7 +23,7 @@ mayPass room (OpenData f start) = room
 mayPass room (ClosedData f size start left) = min left room
 mayPass room (Refused number) = 0
 
--- how many of the next bytes may be passed over; of a record that no calls made, none
+-- how many of the next bytes may be passed over; of an unsound record none
 unfoldable pub passable : Feeder → ℕ
 passable r = cond (sound r) (mayPass (roomFor r) (r .phase)) 0
 
