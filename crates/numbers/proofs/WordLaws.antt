@@ -1,5 +1,5 @@
 -- Numbers that fit 32 bits.
-use mathlib.Core.Path.{_≡_, refl}
+use mathlib.Core.Path.{_≡_, refl, _∙_, ap}
 use mathlib.Core.Bool.{Bool, true, false, _&&_}
 use mathlib.Core.List.{List, [], _∷_, _++_}
 use Prim.Native.Nat.{ℕ, zero, suc, _+_, _-_, _/_, _<_, _≤_, _^_}
@@ -8,7 +8,8 @@ use native.Mathlib.Nat.{mod-eq-of-lt}
 use lib.Dec.{eqb, ltb}
 use lib.ListN.{length, getD, take, drop, length-take, length-drop}
 use lib.Seq.{getD-take, getD-drop}
-use borrow.Author.Tests.{ltb-true, ltb-false, ne-eqb}
+use lib.Bits.{bitOr, or-lt, or-comm, or-add-and, and-le-r}
+use borrow.Author.Tests.{ltb-true, ltb-false, lt-ltb, le-ltb}
 use Rattle.reading.proofs.Choice.{both}
 use Rattle.numbers.specs.FormatNumbers.{audioOf, audioLow}
 use Rattle.numbers.specs.Words.{at, low, isWord, allWords}
@@ -40,29 +41,26 @@ audio-words ns l e =
     let w : (k : ℕ) → k < 6 → getD ns (2 + k) 0 < 2 ^ 32 = part-at ns 2 6 l e in
     rw (low-word ns 2 (w 0 (omega arith)), low-word ns 3 (w 1 (omega arith)), low-word ns 4 (w 2 (omega arith)), low-word ns 5 (w 3 (omega arith)), low-word ns 6 (w 4 (omega arith)), low-word ns 7 (w 5 (omega arith)))
 
--- how many are no words, each counted by what lies above its 32 bits
-abbrev pub above : ℕ → ℕ
-above x = (x / 2 ^ 32 + (2 ^ 32 - 1)) / 2 ^ 32
+le-or : (a b : ℕ) → a ≤ bitOr a b
+le-or a b = omega (arith, or-add-and a b, and-le-r a b)
 
-abbrev pub wide : List ℕ → ℕ
-wide [] = 0
-wide (x ∷ xs) = above x + wide xs
-
-pub wide-more : (xs : List ℕ) (x : ℕ) → wide (xs ++ (x ∷ [])) ≡ wide xs + above x
-wide-more [] x = omega arith
-wide-more (y ∷ ys) x = rw (wide-more ys x) (omega arith)
-
-pub above-one : (x : ℕ) → x < 2 ^ 64 → above x ≤ 1
-above-one x h = omega arith
-
-word-none : (x s : ℕ) (rest : Bool) → eqb s 0 ≡ rest → eqb (above x + s) 0 ≡ isWord x && rest
-word-none x s rest e = go (ltb x (2 ^ 32)) refl
+-- `|` of two is a word exactly where both are
+pub word-or : (x y : ℕ) → isWord (bitOr x y) ≡ isWord x && isWord y
+word-or x y = go (ltb x (2 ^ 32)) (ltb y (2 ^ 32)) refl refl
   where
-    go : (b : Bool) → ltb x (2 ^ 32) ≡ b → eqb (above x + s) 0 ≡ isWord x && rest
-    go true t = let z : above x + s ≡ s = omega (arith, ltb-true x (2 ^ 32) t) in rw (t, z) e
-    go false t = rw (t, ne-eqb (above x + s) 0 (λ z. let y : ⊥ = omega (arith, ltb-false x (2 ^ 32) t) in y))
+    go : (a b : Bool) → ltb x (2 ^ 32) ≡ a → ltb y (2 ^ 32) ≡ b → isWord (bitOr x y) ≡ a && b
+    go true true s t = lt-ltb (bitOr x y) (2 ^ 32) (or-lt 32 x y (ltb-true x (2 ^ 32) s) (ltb-true y (2 ^ 32) t))
+    go true false s t = le-ltb (bitOr x y) (2 ^ 32) (omega (arith, ltb-false y (2 ^ 32) t, le-or y x, or-comm x y))
+    go false b s t = le-ltb (bitOr x y) (2 ^ 32) (omega (arith, ltb-false x (2 ^ 32) s, le-or x y))
 
--- none is counted exactly where all are words
-pub none-wide : (xs : List ℕ) → eqb (wide xs) 0 ≡ allWords xs
-none-wide [] = refl
-none-wide (x ∷ xs) = word-none x (wide xs) (allWords xs) (none-wide xs)
+and-true : (b : Bool) → b && true ≡ true && b
+and-true true = refl
+and-true false = refl
+
+pub words-more : (xs : List ℕ) (x : ℕ) → allWords (xs ++ (x ∷ [])) ≡ allWords xs && isWord x
+words-more [] x = and-true (isWord x)
+words-more (y ∷ ys) x = ap (λ (b : Bool). isWord y && b) (words-more ys x) ∙ and-assoc (isWord y) (allWords ys) (isWord x)
+  where
+    and-assoc : (a b c : Bool) → a && (b && c) ≡ (a && b) && c
+    and-assoc true b c = refl
+    and-assoc false b c = refl

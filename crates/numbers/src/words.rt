@@ -1,6 +1,5 @@
 // Places of an array that hold 32 bits.
 ghost use mathlib.Core.Path.{_≡_};
-ghost use Prim.Native.Nat.{_/_, _+_, _-_, _^_};
 ghost use Rattle.numbers.specs.Words.{at, low, allWords};
 
 // The numbers from here on do not fit 32 bits.
@@ -22,15 +21,15 @@ pub fn word_at(numbers: &[u64], place: usize) -> u32
     (number_at(numbers, place) % WORDS) as u32
 }
 
-// Whether all are words. Those that are not are counted and the count is tested once: without a way out the loop goes by vectors.
+// Whether all are words. Their bits are gathered and tested once: without a way out the loop goes by vectors.
 pub fn words(numbers: &[u64]) -> bool
     ensures { λ r. ⌜ r ≡ allWords (now (numbers .entry)) ⌝ }
 {
-    let mut wide: u64 = 0;
+    let mut bits: u64 = 0;
     let mut i: usize = 0;
     while i < numbers.len() {
-        wide += (numbers[i] / WORDS + (WORDS - 1)) / WORDS;
+        bits |= numbers[i];
         i += 1;
     }
-    wide == 0
+    bits < WORDS
 }
