@@ -6,7 +6,7 @@ ghost use Rattle.numbers.specs.Words.{at, low, allWords};
 pub const WORDS: u64 = 0x1_0000_0000;
 
 // The number at a place, and 0 after the last one.
-pub(crate) fn number_at(numbers: &[u64], place: usize) -> u64
+pub fn number_at(numbers: &[u64], place: usize) -> u64
     ensures { λ r. ⌜ r ≡ at (now (numbers .entry)) place ⌝ }
 {
     if place < numbers.len() {

@@ -1,3 +1,4 @@
 pub mod Parts
 pub mod Records
 pub mod RecordBack
+pub mod Tidied
