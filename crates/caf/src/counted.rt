@@ -12,7 +12,7 @@ ghost use Rattle.byteorder.specs.Splice.{splice};
 ghost use Rattle.writer.specs.Header.{headerCall};
 ghost use Rattle.writer.specs.Data.{dataCall, samplesCall};
 ghost use Rattle.writer.specs.Finish.{finishCall};
-ghost use Rattle.caf.specs.RecordCalls.{countedPlaces, countedNumbers, noCount, CountedCall};
+ghost use Rattle.record_calls.specs.RecordCalls.{countedPlaces, countedNumbers, noCount, CountedCall};
 
 const COUNTED_PLACES: usize = 2;
 

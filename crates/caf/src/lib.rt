@@ -4,7 +4,6 @@ pub mod blocks;
 pub mod chan;
 mod choices;
 pub mod counted;
-mod kept;
 pub mod layouts;
 pub mod made;
 pub mod readings;

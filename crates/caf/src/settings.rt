@@ -1,12 +1,12 @@
 // The settings, for C. `held` is the array that keeps the record.
 use crate::choices::byte_order;
 use crate::choices::sample_type;
-use crate::kept::keep;
 use answers::BAD_WRITER;
+use record_calls::kept::keep;
 use record_numbers::record_from_numbers::record_in;
 ghost use Rattle.writer.specs.Settings.{formatCall, tagCall, labelsCall, configureCall};
 ghost use Rattle.numbers.specs.FormatNumbers.{byteOrder, sampleType};
-ghost use Rattle.caf.specs.RecordCalls.{callOn, Set};
+ghost use Rattle.record_calls.specs.RecordCalls.{callOn, Set};
 
 #[no_mangle]
 pub extern "C" fn caf_set_format(

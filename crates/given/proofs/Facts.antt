@@ -7,7 +7,7 @@ use borrow.Author.Tests.{ltb-true, ltb-false, lt-ltb, le-ltb}
 use Rattle.answers.specs.Numbers.{fileMax}
 use Rattle.format.specs.declared.MaybeFormat.{MaybeFormat}
 use Rattle.format.specs.declared.MaybeFormat.the-variants.{Absent, Present}
-use Rattle.writer.specs.Header.{exceeds, isAbsent}
+use Rattle.refusals.specs.Numbers.{exceeds, isAbsent}
 use Rattle.writer.proofs.Tests.{neither}
 use Rattle.given.specs.Rows
 use Rattle.given.specs.Rows.{TooLong, Fits}

@@ -12,7 +12,7 @@ use Rattle.reading.specs.declared.CAFFileInfo.{CAFFileInfo}
 use Rattle.reading.specs.declared.PlainAnswer.{PlainAnswer}
 use Rattle.reading.specs.declared.PlainAnswer.the-variants.{Found, NotRead}
 use Rattle.reading.proofs.Choice.{either}
-use Rattle.writer.specs.Header.{exceeds}
+use Rattle.refusals.specs.Numbers.{exceeds}
 use Rattle.writer.specs.Resume.{afterHeader, tailNumber, resumedAs, resumed}
 use Rattle.writer.specs.declared.Resumed.{Resumed}
 use Rattle.given.specs.Rows

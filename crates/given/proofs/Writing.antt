@@ -5,8 +5,9 @@ use Prim.Native.Nat.{ℕ, _+_}
 use lib.ListN.{length}
 use borrow.Author.Tests.{not-true, not-false}
 use Rattle.reading.proofs.Choice.{either}
+use Rattle.refusals.specs.Numbers.{exceeds, isAbsent}
 use Rattle.writer.specs.Sound.{sound}
-use Rattle.writer.specs.Header.{exceeds, isAbsent, headerOf, headerNumber}
+use Rattle.writer.specs.Header.{headerOf, headerNumber}
 use Rattle.writer.specs.Data.{dataNumber, samplesNumber}
 use Rattle.writer.specs.Finish.{finishNumber}
 use Rattle.writer.specs.declared.CAFWriter.{CAFWriter}

@@ -20,9 +20,10 @@ use Rattle.reading.specs.declared.PlainAnswer.{PlainAnswer}
 use Rattle.reading.specs.declared.PlainAnswer.the-variants.{Found, NotRead}
 use Rattle.reading.proofs.Choice.{either}
 use Rattle.reading.proofs.Found.{Number, Good, GoodAnswer, plain-good}
+use Rattle.refusals.specs.Numbers.{exceeds}
+use Rattle.refusals.specs.Sound.{rateSound}
 use Rattle.writer.specs.Record.{fresh}
-use Rattle.writer.specs.Sound.{placesSound, rateSound, formatSound, layoutSound, sound}
-use Rattle.writer.specs.Header.{exceeds}
+use Rattle.writer.specs.Sound.{placesSound, formatSound, layoutSound, sound}
 use Rattle.writer.specs.Resume.{reopened, tailNumber, resumedAs, resumed}
 use Rattle.writer.specs.declared.Resumed.{Resumed}
 use Rattle.writer.proofs.Tests.{both, neither}

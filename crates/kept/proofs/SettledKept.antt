@@ -33,8 +33,9 @@ use Rattle.reading.specs.declared.PlainAnswer.{PlainAnswer}
 use Rattle.reading.specs.declared.PlainAnswer.the-variants.{Found, NotRead}
 use Rattle.reading.proofs.Head.{before-size}
 use Rattle.reading.proofs.Then.{strict-then-plain}
+use Rattle.refusals.specs.Sound.{rateSound}
 use Rattle.writer.specs.Record.{fresh, labelsOf, withFormat, withLayout, withHeader, withData, asFinished}
-use Rattle.writer.specs.Sound.{rateSound, formatSound, soundAlone}
+use Rattle.writer.specs.Sound.{formatSound, soundAlone}
 use Rattle.header_bytes.specs.Made.{made, headerBytes, startOf}
 use Rattle.writer.specs.Outcome.{Outcome, stores, unchanged, unlessRefused, bufferAfter}
 use Rattle.writer.specs.Header.{headerOf, headerNumber, headerCall}

@@ -1,4 +1,5 @@
 pub mod Parts
 pub mod Records
 pub mod RecordBack
+mod Labels
 pub mod Tidied

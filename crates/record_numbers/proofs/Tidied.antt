@@ -14,7 +14,7 @@ use Rattle.byteorder.proofs.RateRoundTrip.{bits-back}
 use Rattle.format.specs.declared.MaybeFormat.the-variants.{Absent, Present}
 use Rattle.layout.specs.declared.ChannelLayout.the-variants.{NoLayout, Tagged, Described}
 use Rattle.reading.proofs.Choice.{both}
-use Rattle.writer.specs.Sound.{rateSound}
+use Rattle.refusals.specs.Sound.{rateSound}
 use Rattle.numbers.specs.FormatNumbers.{flagNumber, formatNumbers, orderNumber, audioOf}
 use Rattle.numbers.specs.Lent.{putAt}
 use Rattle.numbers.specs.Words.{at, isWord, allWords}

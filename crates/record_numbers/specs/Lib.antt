@@ -1,3 +1,4 @@
 pub mod RecordNumbers
+pub mod RecordSound
 pub mod RecordTidy
 pub mod RecordClaims

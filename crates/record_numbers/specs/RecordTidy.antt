@@ -6,7 +6,7 @@ use mathlib.Core.Bool.{true, cond}
 use mathlib.Core.List.{List, [], _∷_}
 use lib.ListN.{replicate}
 use lib.Dec.{eqb}
-use Rattle.writer.specs.Sound.{rateSound}
+use Rattle.refusals.specs.Sound.{rateSound}
 use Rattle.numbers.specs.Words.{at}
 use Rattle.numbers.specs.Lent.{putAt}
 use Rattle.record_numbers.specs.RecordNumbers.{maybeOf, isRecord, recordOf, recordNumbers}

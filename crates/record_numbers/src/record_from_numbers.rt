@@ -59,7 +59,7 @@ fn layout_fits(numbers: &[u64]) -> bool
 }
 
 // Whether the array stands for a record.
-fn is_record(numbers: &[u64]) -> bool
+pub(crate) fn is_record(numbers: &[u64]) -> bool
     ensures { λ r. ⌜ r ≡ isRecord (now (numbers .entry)) ⌝ }
 {
     if numbers.len() != RECORD {
@@ -83,7 +83,7 @@ fn is_record(numbers: &[u64]) -> bool
     numbers[FINISHED] < 2
 }
 
-fn format_of(numbers: &[u64]) -> MaybeFormat
+pub(crate) fn format_of(numbers: &[u64]) -> MaybeFormat
     requires { ⌜ (length (now numbers) ≡ recordPlaces) × (formatFits (now numbers) ≡ true) ⌝ }
     ensures { λ r. ⌜ r ≡ maybeOf (now (numbers .entry)) ⌝ }
 {
@@ -93,7 +93,7 @@ fn format_of(numbers: &[u64]) -> MaybeFormat
     MaybeFormat::Present(audio_of(numbers))
 }
 
-fn order_of(n: u64) -> Endianness
+pub fn order_of(n: u64) -> Endianness
     ensures { λ r. ⌜ r ≡ orderOf n ⌝ }
 {
     if n == 0 {
@@ -102,7 +102,7 @@ fn order_of(n: u64) -> Endianness
     Endianness::LittleEndian
 }
 
-fn layout_of(numbers: &[u64]) -> ChannelLayout
+pub(crate) fn layout_of(numbers: &[u64]) -> ChannelLayout
     requires { ⌜ (length (now numbers) ≡ recordPlaces) × (layoutFits (now numbers) ≡ true) ⌝ }
     ensures { λ r. ⌜ r ≡ layoutOf (getD (now (numbers .entry)) 9 0) (getD (now (numbers .entry)) 10 0) ⌝ }
 {

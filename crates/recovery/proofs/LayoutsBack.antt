@@ -21,8 +21,9 @@ use Rattle.chan_reading.proofs.Small.{tag-small}
 use Rattle.chan_reading.proofs.ReadBack.{chan-read-back}
 use Rattle.chan_reading.proofs.Theorems.{sought-is-first}
 use Rattle.chan_reading.proofs.FoundFirst.{found-is-first}
+use Rattle.refusals.specs.Sound.{layoutSoundAs}
 use Rattle.writer.specs.Record.{labelsOf, withHeader}
-use Rattle.writer.specs.Sound.{layoutSoundAs, layoutSound}
+use Rattle.writer.specs.Sound.{layoutSound}
 use Rattle.header_bytes.specs.Made.{layoutChunks, made}
 use Rattle.writer.specs.Outcome.{stores}
 use Rattle.writer.specs.Header.{headerOf, headerNumber, headerCall}

@@ -1,17 +1,34 @@
--- What 0 from each kind of call tells.
-use mathlib.Core.Path.{_≡_}
-use mathlib.Core.Bool.{true, false, cond, not}
+-- The numbers of calls: from what is answered for the parts of a record, and what 0 from each kind of call tells.
+use mathlib.Core.Path.{_≡_, _∙_, ap}
+use mathlib.Core.Bool.{Bool, true, false, cond, not}
 use Prim.Native.Nat.{ℕ, _+_, _≤_}
 use lib.Dec.{ltb, lit<}
 use lib.ListN.{length}
 use borrow.Author.Tests.{ltb-false, not-false}
 use Rattle.answers.specs.Numbers.{done, badWriter, finished, headerAlready, noFormat, noHeader, noRoom, fileMax}
+use Rattle.refusals.specs.Numbers.{exceeds, isAbsent, dataNumberAs, samplesNumberAs, finishNumberAs}
 use Rattle.writer.specs.Sound.{sound}
-use Rattle.writer.specs.Header.{exceeds, isAbsent, headerOf, headerNumber}
-use Rattle.writer.specs.Data.{dataNumber}
+use Rattle.writer.specs.Header.{headerOf, headerNumber}
+use Rattle.writer.specs.Data.{dataNumber, samplesNumber}
 use Rattle.writer.specs.Finish.{finishNumber}
 use Rattle.writer.specs.declared.CAFWriter.{CAFWriter}
 use Rattle.writer.proofs.Tests.{neither, pass}
+
+-- the record's number is the one for its parts
+module _ (w : CAFWriter) (room k : ℕ) (s : Bool) (sounds : s ≡ sound w room) where
+  pub data-number : (n : ℕ) → k ≡ dataNumberAs s (w .finished) (w .«has_header») (w .«file_len») room n → k ≡ dataNumber w room n
+  unfolding dataNumber
+  data-number n e = e ∙ ap (λ (b : Bool). dataNumberAs b (w .finished) (w .«has_header») (w .«file_len») room n) sounds
+
+  pub samples-number : (n : ℕ) (a : Bool) → a ≡ isAbsent (w .format) → k ≡ samplesNumberAs s (w .finished) (w .«has_header») a (w .«file_len») room n → k ≡ samplesNumber w room n
+  unfolding samplesNumber
+  samples-number n a absent e =
+      e ∙ ap (λ (b : Bool). samplesNumberAs b (w .finished) (w .«has_header») a (w .«file_len») room n) sounds
+      ∙ ap (λ (b : Bool). samplesNumberAs (sound w room) (w .finished) (w .«has_header») b (w .«file_len») room n) absent
+
+  pub finish-number : k ≡ finishNumberAs s (w .finished) (w .«has_header») → k ≡ finishNumber w room
+  unfolding finishNumber
+  finish-number e = e ∙ ap (λ (b : Bool). finishNumberAs b (w .finished) (w .«has_header»)) sounds
 
 pub record HeaderAllowed (w : CAFWriter) (room : ℕ) : Type 0 where
   pub is-sound : sound w room ≡ true

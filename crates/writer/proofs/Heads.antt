@@ -23,9 +23,11 @@ use Rattle.layout.specs.declared.ChannelLayout.the-variants.{Described}
 use Rattle.header_bytes.specs.Made.{headerBytes, startOf}
 use Rattle.header_bytes.specs.Put.{longestHeader}
 use Rattle.header_bytes.proofs.Made.{header-length}
-use Rattle.writer.specs.Header.{isAbsent, headerWith, headerOf}
+use Rattle.refusals.specs.Numbers.{isAbsent}
+use Rattle.refusals.specs.Sound.{rateSound, layoutSoundAs}
+use Rattle.writer.specs.Header.{headerWith, headerOf}
 use Rattle.writer.specs.Record.{labelsOf}
-use Rattle.writer.specs.Sound.{rateSound, formatSound, layoutSoundAs, layoutSound, soundAlone}
+use Rattle.writer.specs.Sound.{formatSound, layoutSound, soundAlone}
 use Rattle.writer.specs.declared.CAFWriter.{CAFWriter}
 use Rattle.writer.proofs.Tests.{two, true-false}
 use Rattle.writer.proofs.Facts.{alone}

@@ -5,36 +5,19 @@ use crate::Wrote;
 use crate::budget::ALL;
 use crate::budget::with_stores;
 use crate::budget::without_stores;
-use answers::BAD_WRITER;
 use answers::DONE;
-use answers::NO_HEADER;
 use byteorder::bytes::u64_bytes;
 use byteorder::store::store;
 use reading::sizes::EDIT_COUNT;
+use refusals::numbers::finish_number;
 ghost use mathlib.Core.Path.{_≡_};
 ghost use Prim.Native.Nat.{_≤_};
 ghost use lib.ListN.{length};
 ghost use Rattle.answers.specs.Numbers.{fileMax};
 ghost use Rattle.writer.specs.Outcome.{Gives, GivesFirst};
-ghost use Rattle.writer.specs.Finish.{finishNumber, finalSize, finishCall};
+ghost use Rattle.writer.specs.Finish.{finalSize, finishCall};
 
 impl CAFWriter {
-    // A second finish is no fault.
-    pub(crate) fn finish_number(self, room: usize) -> u32
-        ensures { λ r. ⌜ r ≡ finishNumber self room ⌝ }
-    {
-        if !self.is_sound(room) {
-            return BAD_WRITER;
-        }
-        if self.finished {
-            return DONE;
-        }
-        if !self.has_header {
-            return NO_HEADER;
-        }
-        DONE
-    }
-
     // The edit count and the payload, which is what stands from the data start to the end of the file.
     fn final_size(self) -> [u8; 8]
         requires { ⌜ (self .«data_start» ≤ self .«file_len») × (self .«file_len» ≤ fileMax) ⌝ }
@@ -47,8 +30,9 @@ impl CAFWriter {
     pub fn finish_counted(self, buf: &mut [u8], n: usize) -> Counted
         ensures { λ r. ⌜ GivesFirst n (finishCall self (length (now (buf .entry)))) self r (now (buf .entry)) (now (buf .exit)) ⌝ }
     {
-        let number = self.finish_number(buf.len());
         let len = self.file_len;
+        let sound = self.is_sound(buf.len());
+        let number = finish_number(sound, self.finished, self.has_header);
         if number != DONE {
             return without_stores(number, len);
         }

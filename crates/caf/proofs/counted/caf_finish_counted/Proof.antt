@@ -1,4 +1,4 @@
-use Rattle.caf.proofs.Calls.{none-held, record-held, short-counted, none-counted, record-counted}
+use Rattle.record_calls.proofs.Calls.{none-held, record-held, short-counted, none-counted, record-counted}
 use Rattle.writer.specs.Finish.{finishCall}
 use Rattle.writer.specs.declared.CAFWriter.{CAFWriter}
 use lib.ListN.{length}

@@ -1,5 +1,5 @@
 use Rattle.caf.proofs.Told.{one-part}
-use Rattle.caf.specs.RecordCalls.{countedNumbers}
+use Rattle.record_calls.specs.RecordCalls.{countedNumbers}
 use mathlib.Core.Path.{refl}
 use borrow.Author.Needs.{needs}
 use Rattle.caf.proofs.counted.tell.Statement.{statement}

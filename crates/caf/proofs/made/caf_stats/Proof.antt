@@ -1,4 +1,4 @@
-use Rattle.caf.proofs.Calls.{none-held, record-held}
+use Rattle.record_calls.proofs.Calls.{none-held, record-held}
 use Rattle.byteorder.proofs.Laws.{splice-nil}
 use borrow.Author.Tests.{lt-ltb, le-ltb}
 use mathlib.Core.Path.{sym, _∙_, ap}

@@ -1,6 +1,5 @@
 use Rattle.numbers.specs.FormatNumbers.{byteOrder, sampleType}
-use Rattle.caf.proofs.Calls.{none-held, record-held, none-set, record-set}
-use Rattle.record_numbers.proofs.Records.{is-record}
+use Rattle.record_calls.proofs.Calls.{none-held, record-held, none-set, record-set}
 use Rattle.writer.specs.Settings.{formatCall}
 use Rattle.writer.specs.declared.CAFWriter.{CAFWriter}
 use borrow.Author.Needs.{needs}
@@ -26,7 +25,7 @@ set-audio-format-with-options-requires : tie.Need-set-audio-format-with-options-
 set-audio-format-with-options-requires c κs = search needs
 
 keep-requires : tie.Need-keep-requires
-keep-requires c κs = is-record _ (record-held _ (c .before .before .before .before .before .before .record-in .ensures) (c .before .before .before .before .if1 .left) .0) .places
+keep-requires c κs = search needs
 
 same-length-2 : tie.Need-same-length-2
 same-length-2 c = search needs

@@ -1,5 +1,4 @@
-use Rattle.caf.proofs.Calls.{none-held, record-held, none-set, record-set}
-use Rattle.record_numbers.proofs.Records.{is-record}
+use Rattle.record_calls.proofs.Calls.{none-held, record-held, none-set, record-set}
 use Rattle.writer.specs.Settings.{labelsCall}
 use Rattle.writer.specs.declared.CAFWriter.{CAFWriter}
 use borrow.Author.Needs.{needs}
@@ -19,7 +18,7 @@ set-channel-layout-for-labels-requires : tie.Need-set-channel-layout-for-labels-
 set-channel-layout-for-labels-requires c κs = search needs
 
 keep-requires : tie.Need-keep-requires
-keep-requires c κs = is-record _ (record-held _ (c .before .before .before .before .record-in .ensures) (c .before .before .if1 .left) .0) .places
+keep-requires c κs = search needs
 
 same-length-2 : tie.Need-same-length-2
 same-length-2 c = search needs

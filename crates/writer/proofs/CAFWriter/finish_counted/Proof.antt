@@ -1,7 +1,7 @@
 use Rattle.byteorder.specs.Splice.{storeCount, storeFirst}
 use mathlib.Core.List.{List}
 use Rattle.writer.proofs.Counting.{counted-unchanged, counted-refused, counted-stored, count-most, finish-going}
-use Rattle.writer.proofs.Allowed.{finish-sound, finish-header}
+use Rattle.writer.proofs.Allowed.{finish-number, finish-sound, finish-header}
 use Rattle.writer.proofs.Facts.{sound-alone, in-room, headed}
 use Rattle.writer.specs.Finish.{finishNumber, finalSize, finishCall}
 use Rattle.writer.specs.Outcome.{stores, unchanged}
@@ -16,6 +16,9 @@ use borrow.Author.Needs.{needs}
 use Rattle.writer.proofs.CAFWriter.finish_counted.Statement.{statement}
 use Rattle.writer.proofs.CAFWriter.finish_counted.Tie as tie
 
+is-sound-requires : tie.Need-is-sound-requires
+is-sound-requires c κs = search needs
+
 finish-number-requires : tie.Need-finish-number-requires
 finish-number-requires c κs = search needs
 
@@ -24,24 +27,33 @@ without-stores-requires c κs = search needs
 
 returns : tie.Need-returns
 unfolding finishCall
-returns c = let a = c .before .before .before .before .args in let w = a .self in
+returns c =
+    let a = c .before .before .before .before .before .args in
+    let w = a .self in
     let f = counted-refused (a .n) w (a .buf .now) (c .before .before .finish-number .result) (cond (w .finished) (unchanged done w) (stores (w .«size_position») (finalSize w) (asFinished w))) (c .before .if1 .taken) in
-    rw (← c .before .before .finish-number .ensures) (c .without-stores .ensures ∙ f .0, f .1)
+    let is = finish-number w (length (a .buf .now)) (c .before .before .finish-number .result) (c .before .before .before .is-sound .result) (c .before .before .before .is-sound .ensures) (c .before .before .finish-number .ensures) in
+    rw (← is) (c .without-stores .ensures ∙ f .0, f .1)
 
 without-stores-requires-2 : tie.Need-without-stores-requires-2
 without-stores-requires-2 c κs = search needs
 
 returns-2 : tie.Need-returns-2
 unfolding finishCall
-returns-2 c = let a = c .before .before .before .before .before .args in let w = a .self in
+returns-2 c =
+    let a = c .before .before .before .before .before .before .args in
+    let w = a .self in
     let f = counted-unchanged (a .n) w (a .buf .now) done in
-    rw (← c .before .before .before .finish-number .ensures, c .before .before .if1 .left, c .before .if2 .taken) (c .without-stores2 .ensures ∙ f .0, f .1)
+    let is = finish-number w (length (a .buf .now)) (c .before .before .before .finish-number .result) (c .before .before .before .before .is-sound .result) (c .before .before .before .before .is-sound .ensures) (c .before .before .before .finish-number .ensures) in
+    rw (← is, c .before .before .if1 .left, c .before .if2 .taken) (c .without-stores2 .ensures ∙ f .0, f .1)
 
 final-size-requires : tie.Need-final-size-requires
-final-size-requires c κs = let a = c .before .before .before .before .args in let w = a .self in
-    let z : finishNumber w (length (a .buf .now)) ≡ 0 = sym (c .before .before .finish-number .ensures) ∙ c .before .if1 .left in
-    let s = sound-alone w (length (a .buf .now)) (finish-sound w (length (a .buf .now)) z) in
-    (headed w (finish-header w (length (a .buf .now)) z (c .if2 .left)) (s .places) .to, s .in-file)
+final-size-requires c κs =
+    let a = c .before .before .before .before .before .args in
+    let w = a .self in
+    let room = length (a .buf .now) in
+    let z : finishNumber w room ≡ 0 = sym (finish-number w room (c .before .before .finish-number .result) (c .before .before .before .is-sound .result) (c .before .before .before .is-sound .ensures) (c .before .before .finish-number .ensures)) ∙ c .before .if1 .left in
+    let s = sound-alone w room (finish-sound w room z) in
+    (headed w (finish-header w room z (c .if2 .left)) (s .places) .to, s .in-file)
 
 slice-aggregate-store : tie.Need-slice-aggregate-store
 slice-aggregate-store c = search needs
@@ -50,8 +62,11 @@ store-requires : tie.Need-store-requires
 store-requires c κs = search needs
 
 with-stores-requires : tie.Need-with-stores-requires
-with-stores-requires c κs = let a = c .before .before .before .before .before .before .before .before .before .before .args in let w = a .self in let room = length (a .buf .now) in
-    let z : finishNumber w room ≡ 0 = sym (c .before .before .before .before .before .before .before .before .finish-number .ensures) ∙ c .before .before .before .before .before .before .before .if1 .left in
+with-stores-requires c κs =
+    let a = c .before .before .before .before .before .before .before .before .before .before .before .args in
+    let w = a .self in
+    let room = length (a .buf .now) in
+    let z : finishNumber w room ≡ 0 = sym (finish-number w room (c .before .before .before .before .before .before .before .before .finish-number .result) (c .before .before .before .before .before .before .before .before .before .is-sound .result) (c .before .before .before .before .before .before .before .before .before .is-sound .ensures) (c .before .before .before .before .before .before .before .before .finish-number .ensures)) ∙ c .before .before .before .before .before .before .before .if1 .left in
     let s = sound-alone w room (finish-sound w room z) in
     let p = headed w (finish-header w room z (c .before .before .before .before .before .before .if2 .left)) (s .places) in
     let k : c .before .before .store .result ≡ storeCount (a .n) 8 (w .«size_position») room = c .before .before .store .ensures .0 ∙ ap (λ (l : List ℕ). storeCount (a .n) (length l) (w .«size_position») room) (c .before .before .before .before .before .final-size .ensures) in
@@ -61,8 +76,11 @@ same-length : tie.Need-same-length
 same-length c = search needs
 
 returns-3 : tie.Need-returns-3
-returns-3 c = let a = c .before .before .before .before .before .before .before .before .before .before .before .args in let w = a .self in let room = length (a .buf .now) in
-    let z : finishNumber w room ≡ 0 = sym (c .before .before .before .before .before .before .before .before .before .finish-number .ensures) ∙ c .before .before .before .before .before .before .before .before .if1 .left in
+returns-3 c =
+    let a = c .before .before .before .before .before .before .before .before .before .before .before .before .args in
+    let w = a .self in
+    let room = length (a .buf .now) in
+    let z : finishNumber w room ≡ 0 = sym (finish-number w room (c .before .before .before .before .before .before .before .before .before .finish-number .result) (c .before .before .before .before .before .before .before .before .before .before .is-sound .result) (c .before .before .before .before .before .before .before .before .before .before .is-sound .ensures) (c .before .before .before .before .before .before .before .before .before .finish-number .ensures)) ∙ c .before .before .before .before .before .before .before .before .if1 .left in
     let t = finish-sound w room z in
     let p = headed w (finish-header w room z (c .before .before .before .before .before .before .before .if2 .left)) (sound-alone w room t .places) in
     let h : w .«size_position» + length (finalSize w) ≤ room = omega (arith, p .apart, p .to, in-room w room t) in
@@ -75,6 +93,7 @@ pub finish-counted-spec : {M : Type 1} → statement M
 finish-counted-spec =
     tie.close
     (tie.spec
+    is-sound-requires
     finish-number-requires
     without-stores-requires
     returns

@@ -1,6 +1,7 @@
 use lib.ListN.{length, length-take, replicate}
 use Rattle.header_bytes.specs.Made.{headerBytes}
 use Rattle.header_bytes.proofs.Parts.{header-small}
+use Rattle.refusals.specs.Numbers.{isAbsent}
 use Rattle.writer.proofs.Heads.{rate-number, header-of, filled}
 use mathlib.Core.Path.{_≡_, sym, _∙_, ap}
 use native.Mathlib.Omega.{arith}
@@ -8,7 +9,7 @@ use Prim.Native.Nat.{ℕ, _≤_}
 use mathlib.Core.List.{List}
 use Rattle.byteorder.specs.Splice.{storeCount, storeFirst}
 use Rattle.writer.specs.Record.{labelsOf, withHeader}
-use Rattle.writer.specs.Header.{isAbsent, headerOf, headerNumber, headerCall}
+use Rattle.writer.specs.Header.{headerOf, headerNumber, headerCall}
 use Rattle.writer.proofs.Tests.{true-false}
 use Rattle.writer.proofs.Facts.{sound-alone}
 use Rattle.writer.proofs.Allowed.{header-allowed}

@@ -1,0 +1,110 @@
+-- A call that looks at the array's own numbers and changes some of them: what it promises of the record is so too.
+use mathlib.Core.Path.{_≡_, refl, sym, _∙_, ap}
+use mathlib.Core.Bool.{Bool, true, false, cond}
+use mathlib.Core.List.{List, [], _∷_, _++_, append-assoc}
+use Prim.Native.Nat.{ℕ, _+_}
+use native.Mathlib.Omega.{arith}
+use lib.Dec.{eqb}
+use lib.ListN.{length, set, length-append}
+use lib.Seq.{set-at}
+use borrow.Author.Tests.{ne-eqb}
+use Rattle.answers.specs.Numbers.{done, badWriter}
+use Rattle.byteorder.proofs.Laws.{splice-nil}
+use Rattle.format.specs.declared.MaybeFormat.the-variants.{Absent, Present}
+use Rattle.refusals.specs.Numbers.{isAbsent, dataNumberAs, samplesNumberAs}
+use Rattle.writer.specs.Record.{fresh, withData}
+use Rattle.writer.specs.Sound.{sound}
+use Rattle.writer.specs.Data.{dataNumber, samplesNumber}
+use Rattle.writer.specs.Outcome.{Outcome, unchanged, unlessRefused, answer, bufferAfter}
+use Rattle.writer.specs.declared.CAFWriter.{CAFWriter}
+use Rattle.writer.proofs.Tests.{accepted, refused}
+use Rattle.numbers.specs.FormatNumbers.{flagNumber, formatNumbers, orderNumber, audioOf}
+use Rattle.numbers.specs.Words.{at}
+use Rattle.numbers.proofs.FormatLaws.{length-format}
+use Rattle.record_numbers.specs.RecordNumbers.{maybeOf, layoutKind, layoutTag, isRecord, recordOf, recordNumbers}
+use Rattle.record_numbers.specs.RecordSound.{soundIn}
+use Rattle.record_calls.specs.RecordCalls.{numberOn, callOn, recordAfter, Called}
+use Rattle.record_calls.proofs.Calls.{none-called, on-record}
+
+-- the file's length and the data count, among the last six numbers
+module _ (front : List ℕ) (long : length front ≡ 76) (a b c d e f v u : ℕ) where
+  six-set : set (set (front ++ (a ∷ b ∷ c ∷ d ∷ e ∷ f ∷ [])) 79 v) 80 u ≡ front ++ (a ∷ b ∷ c ∷ v ∷ u ∷ f ∷ [])
+  six-set =
+      let p = front ++ (a ∷ b ∷ c ∷ []) in
+      let q = front ++ (a ∷ b ∷ c ∷ v ∷ []) in
+      let lp : length p ≡ 79 = simp length-append (omega arith) in
+      let lq : length q ≡ 80 = simp length-append (omega arith) in
+      ap (λ (l : List ℕ). set (set l 79 v) 80 u) (sym (append-assoc front (a ∷ b ∷ c ∷ []) (d ∷ e ∷ f ∷ [])))
+      ∙ ap (λ (l : List ℕ). set l 80 u) (set-at p d (e ∷ f ∷ []) v 79 lp ∙ append-assoc front (a ∷ b ∷ c ∷ []) (v ∷ e ∷ f ∷ []) ∙ sym (append-assoc front (a ∷ b ∷ c ∷ v ∷ []) (e ∷ f ∷ [])))
+      ∙ set-at q e (f ∷ []) u 80 lq
+      ∙ append-assoc front (a ∷ b ∷ c ∷ v ∷ []) (u ∷ f ∷ [])
+
+pub grown : (w : CAFWriter) (n : ℕ) → length (w .labels) ≡ 64 → set (set (recordNumbers w) 79 (w .«file_len» + n)) 80 (w .«data_count» + n) ≡ recordNumbers (withData w n)
+unfolding recordNumbers
+grown w n l =
+    let front = formatNumbers (w .format) ++ (orderNumber (w .endianness) ∷ layoutKind (w .layout) ∷ layoutTag (w .layout) ∷ w .«label_count» ∷ []) ++ w .labels in
+    let lf = length-format (w .format) in
+    let long : length front ≡ 76 = simp length-append (omega arith) in
+    six-set front long _ _ _ _ _ _ (w .«file_len» + n) (w .«data_count» + n)
+
+-- the numbers of data calls, from what is seen in the array
+module _ (held : List ℕ) (room n : ℕ) where
+  abbrev seen : Bool → ℕ
+  seen s = dataNumberAs s (eqb (at held 81) 1) (eqb (at held 76) 1) (at held 79) room n
+
+  pub data-seen : seen (soundIn held room) ≡ numberOn held (λ w. dataNumber w room n)
+  unfolding soundIn dataNumber recordOf
+  data-seen = go (isRecord held)
+    where
+      go : (b : Bool) → seen (cond b (sound (recordOf held) room) false) ≡ cond b (seen (sound (recordOf held) room)) badWriter
+      go true = refl
+      go false = refl
+
+  abbrev seenSamples : Bool → Bool → ℕ
+  seenSamples s absent = samplesNumberAs s (eqb (at held 81) 1) (eqb (at held 76) 1) absent (at held 79) room n
+
+  absent-seen : eqb (at held 0) 0 ≡ isAbsent (maybeOf held)
+  absent-seen = go (eqb (at held 0) 0)
+    where
+      go : (b : Bool) → b ≡ isAbsent (cond b Absent (Present (audioOf held)))
+      go true = refl
+      go false = refl
+
+  pub samples-seen : seenSamples (soundIn held room) (eqb (at held 0) 0) ≡ numberOn held (λ w. samplesNumber w room n)
+  unfolding soundIn samplesNumber recordOf
+  samples-seen = ap (seenSamples (soundIn held room)) absent-seen ∙ go (isRecord held)
+    where
+      go : (b : Bool) → seenSamples (cond b (sound (recordOf held) room) false) (isAbsent (maybeOf held)) ≡ cond b (seenSamples (sound (recordOf held) room) (isAbsent (maybeOf held))) badWriter
+      go true = refl
+      go false = refl
+
+-- 0 is given for a record alone
+pub number-done : (held : List ℕ) (number : CAFWriter → ℕ) → numberOn held number ≡ done → (isRecord held ≡ true) × (number (recordOf held) ≡ done)
+number-done held number e = go (isRecord held) refl e
+  where
+    go : (b : Bool) → isRecord held ≡ b → cond b (number (recordOf held)) badWriter ≡ done → (isRecord held ≡ true) × (number (recordOf held) ≡ done)
+    go true is e = (is, e)
+    go false is e = absurd (let z : ⊥ = omega arith in z)
+
+-- a call that its number alone refuses
+module _ (held buf : List ℕ) (number : CAFWriter → ℕ) (o : CAFWriter → Outcome) where
+  abbrev call : CAFWriter → Outcome
+  call w = unlessRefused (number w) w (o w)
+
+  pub refused-called : {r : ℕ} → r ≡ numberOn held number → (r ≡ done → ⊥) → Called held buf (callOn held call) r held buf
+  unfolding recordAfter
+  refused-called {r} e h = go (isRecord held) refl e
+    where
+      go : (b : Bool) → isRecord held ≡ b → r ≡ cond b (number (recordOf held)) badWriter → Called held buf (callOn held call) r held buf
+      go true is e =
+          let w = recordOf held in
+          let no : number w ≡ done → ⊥ = λ z. h (e ∙ z) in
+          rw (on-record held call is, refused (number w) w (o w) no) (record { number = e; kept = rw (ne-eqb (number w) done no); stored = sym (splice-nil buf 0) })
+      go false is e = rw e (none-called held call buf is)
+
+  pub changed-called : {after last : List ℕ} → isRecord held ≡ true → number (recordOf held) ≡ done → o (recordOf held) .number ≡ done
+      → after ≡ recordNumbers (o (recordOf held) .after) → last ≡ bufferAfter (o (recordOf held)) buf → Called held buf (callOn held call) done after last
+  unfolding recordAfter
+  changed-called is e d k b =
+      let w = recordOf held in
+      rw (on-record held call is, accepted (number w) w (o w) e) (record { number = sym d; kept = rw d k; stored = b })

@@ -1,0 +1,3 @@
+// The writer's calls on the array of numbers that keeps its record for C.
+pub mod kept;
+pub mod writing;

@@ -1,0 +1,117 @@
+// The calls on a buffer. `held` is the array that keeps the record. A data call looks at the array's own numbers and changes two of them;
+// the record is not made for it.
+use crate::kept::keep;
+use answers::BAD_WRITER;
+use answers::DONE;
+use byteorder::store::store;
+use numbers::words::number_at;
+use pcm::packing::pack_first;
+use pcm::sample::SAMPLE_SIZE;
+use record_numbers::places::DATA_COUNT;
+use record_numbers::places::ENDIANNESS;
+use record_numbers::places::FILE_LEN;
+use record_numbers::places::FINISHED;
+use record_numbers::places::HAS_FORMAT;
+use record_numbers::places::HAS_HEADER;
+use record_numbers::record_from_numbers::order_of;
+use record_numbers::record_from_numbers::record_in;
+use record_numbers::record_sound::sound_in;
+use record_numbers::record_tidy::tidy;
+use refusals::numbers::data_number;
+use refusals::numbers::samples_number;
+ghost use mathlib.Core.Path.{_≡_};
+ghost use mathlib.Core.Bool.{true};
+ghost use Prim.Native.Nat.{_+_, _<_, _^_};
+ghost use lib.ListN.{length};
+ghost use Rattle.refusals.specs.Sound.{rateSound};
+ghost use Rattle.writer.specs.Record.{withData};
+ghost use Rattle.writer.specs.Header.{headerCall};
+ghost use Rattle.writer.specs.Data.{dataNumber, dataCall, samplesNumber, samplesCall};
+ghost use Rattle.writer.specs.Finish.{finishCall};
+ghost use Rattle.numbers.specs.Words.{at};
+ghost use Rattle.record_numbers.specs.RecordNumbers.{maybeOf, isRecord, recordOf, recordNumbers};
+ghost use Rattle.record_calls.specs.RecordCalls.{numberOn, callOn, Called};
+
+pub fn write_header(held: &mut [u64], buf: &mut [u8]) -> u32
+    ensures { λ r. ⌜ Called (now (held .entry)) (now (buf .entry)) (callOn (now (held .entry)) (λ w. headerCall w (length (now (buf .entry))))) r (now (held .exit)) (now (buf .exit)) ⌝ }
+{
+    let kept = record_in(held);
+    if !kept.stands {
+        return BAD_WRITER;
+    }
+    let wrote = kept.writer.write_header(buf);
+    keep(held, wrote)
+}
+
+// n data bytes more, in the array.
+fn grow(held: &mut [u64], n: usize)
+    requires { ⌜ (isRecord (now held) ≡ true) × (rateSound (maybeOf (now held)) ≡ true) × (at (now held) 79 + n < 2 ^ 64) × (at (now held) 80 + n < 2 ^ 64) ⌝ }
+    ensures { λ _. ⌜ now (held .exit) ≡ recordNumbers (withData (recordOf (now (held .entry))) n) ⌝ }
+{
+    let len = held[FILE_LEN] + n as u64;
+    let count = held[DATA_COUNT] + n as u64;
+    tidy(held);
+    held[FILE_LEN] = len;
+    held[DATA_COUNT] = count;
+}
+
+fn data_number_on(held: &[u64], room: usize, n: usize) -> u32
+    ensures { λ r. ⌜ r ≡ numberOn (now (held .entry)) (λ w. dataNumber w room n) ⌝ }
+{
+    let sound = sound_in(held, room);
+    let finished = number_at(held, FINISHED) == 1;
+    let has_header = number_at(held, HAS_HEADER) == 1;
+    let file_len = number_at(held, FILE_LEN) as usize;
+    data_number(sound, finished, has_header, file_len, room, n)
+}
+
+pub fn write_data(held: &mut [u64], buf: &mut [u8], bytes: &[u8]) -> u32
+    ensures { λ r. ⌜ Called (now (held .entry)) (now (buf .entry)) (callOn (now (held .entry)) (λ w. dataCall w (length (now (buf .entry))) (now (bytes .entry)))) r (now (held .exit)) (now (buf .exit)) ⌝ }
+{
+    let n = bytes.len();
+    let number = data_number_on(held, buf.len(), n);
+    if number != DONE {
+        return number;
+    }
+    let len = number_at(held, FILE_LEN) as usize;
+    store(buf, len, bytes, n);
+    grow(held, n);
+    number
+}
+
+fn samples_number_on(held: &[u64], room: usize, n: usize) -> u32
+    ensures { λ r. ⌜ r ≡ numberOn (now (held .entry)) (λ w. samplesNumber w room n) ⌝ }
+{
+    let sound = sound_in(held, room);
+    let finished = number_at(held, FINISHED) == 1;
+    let has_header = number_at(held, HAS_HEADER) == 1;
+    let absent = number_at(held, HAS_FORMAT) == 0;
+    let file_len = number_at(held, FILE_LEN) as usize;
+    samples_number(sound, finished, has_header, absent, file_len, room, n)
+}
+
+pub fn write_samples(held: &mut [u64], buf: &mut [u8], samples: &[i32]) -> u32
+    ensures { λ r. ⌜ Called (now (held .entry)) (now (buf .entry)) (callOn (now (held .entry)) (λ w. samplesCall w (length (now (buf .entry))) (now (samples .entry)))) r (now (held .exit)) (now (buf .exit)) ⌝ }
+{
+    let n = SAMPLE_SIZE * samples.len();
+    let number = samples_number_on(held, buf.len(), n);
+    if number != DONE {
+        return number;
+    }
+    let len = number_at(held, FILE_LEN) as usize;
+    let endianness = order_of(number_at(held, ENDIANNESS));
+    pack_first(samples, endianness, buf, len, n);
+    grow(held, n);
+    number
+}
+
+pub fn finish(held: &mut [u64], buf: &mut [u8]) -> u32
+    ensures { λ r. ⌜ Called (now (held .entry)) (now (buf .entry)) (callOn (now (held .entry)) (λ w. finishCall w (length (now (buf .entry))))) r (now (held .exit)) (now (buf .exit)) ⌝ }
+{
+    let kept = record_in(held);
+    if !kept.stands {
+        return BAD_WRITER;
+    }
+    let wrote = kept.writer.finish(buf);
+    keep(held, wrote)
+}
