@@ -1,51 +1,59 @@
 -- A call that looks at the array's own numbers and changes some of them: what it promises of the record is so too.
 use mathlib.Core.Path.{_≡_, refl, sym, _∙_, ap}
-use mathlib.Core.Bool.{Bool, true, false, cond}
+use mathlib.Core.Bool.{Bool, true, false, cond, _&&_}
 use mathlib.Core.List.{List, [], _∷_, _++_, append-assoc}
-use Prim.Native.Nat.{ℕ, _+_}
+use Prim.Native.Nat.{ℕ, _+_, _-_, _<_, _≤_, _^_}
 use native.Mathlib.Omega.{arith}
 use lib.Dec.{eqb}
-use lib.ListN.{length, set, length-append}
-use lib.Seq.{set-at}
+use lib.ListN.{length, take, drop, length-append, length-take, length-drop}
+use lib.Seq.{take-at, drop-at}
 use borrow.Author.Tests.{ne-eqb}
-use Rattle.answers.specs.Numbers.{done, badWriter}
+use Rattle.answers.specs.Numbers.{done, badWriter, fileMax}
 use Rattle.byteorder.proofs.Laws.{splice-nil}
 use Rattle.format.specs.declared.MaybeFormat.the-variants.{Absent, Present}
 use Rattle.refusals.specs.Numbers.{isAbsent, dataNumberAs, samplesNumberAs}
 use Rattle.writer.specs.Record.{fresh, withData}
-use Rattle.writer.specs.Sound.{sound}
+use Rattle.refusals.specs.Sound.{rateSound}
+use Rattle.writer.specs.Sound.{formatSound, sound}
 use Rattle.writer.specs.Data.{dataNumber, samplesNumber}
 use Rattle.writer.specs.Outcome.{Outcome, unchanged, unlessRefused, answer, bufferAfter}
 use Rattle.writer.specs.declared.CAFWriter.{CAFWriter}
-use Rattle.writer.proofs.Tests.{accepted, refused}
+use Rattle.writer.proofs.Tests.{accepted, refused, two}
+use Rattle.writer.proofs.Allowed.{data-allowed}
+use Rattle.writer.proofs.Facts.{sound-alone, headed}
 use Rattle.numbers.specs.FormatNumbers.{flagNumber, formatNumbers, orderNumber, audioOf}
+use Rattle.numbers.specs.Lent.{putAt}
 use Rattle.numbers.specs.Words.{at}
 use Rattle.numbers.proofs.FormatLaws.{length-format}
-use Rattle.record_numbers.specs.RecordNumbers.{maybeOf, layoutKind, layoutTag, isRecord, recordOf, recordNumbers}
+use Rattle.numbers.proofs.Puts.{put-fits}
+use Rattle.record_numbers.specs.RecordNumbers.{maybeOf, labelsIn, layoutKind, layoutTag, isRecord, recordOf, recordNumbers}
 use Rattle.record_numbers.specs.RecordSound.{soundIn}
+use Rattle.record_numbers.proofs.Records.{is-record}
 use Rattle.record_calls.specs.RecordCalls.{numberOn, callOn, recordAfter, Called}
 use Rattle.record_calls.proofs.Calls.{none-called, on-record}
 
 -- the file's length and the data count, among the last six numbers
 module _ (front : List ℕ) (long : length front ≡ 76) (a b c d e f v u : ℕ) where
-  six-set : set (set (front ++ (a ∷ b ∷ c ∷ d ∷ e ∷ f ∷ [])) 79 v) 80 u ≡ front ++ (a ∷ b ∷ c ∷ v ∷ u ∷ f ∷ [])
-  six-set =
+  two-put : {ns : List ℕ} → ns ≡ front ++ (a ∷ b ∷ c ∷ d ∷ e ∷ f ∷ []) → putAt ns 79 (v ∷ u ∷ []) ≡ front ++ (a ∷ b ∷ c ∷ v ∷ u ∷ f ∷ [])
+  two-put {ns} is =
       let p = front ++ (a ∷ b ∷ c ∷ []) in
-      let q = front ++ (a ∷ b ∷ c ∷ v ∷ []) in
+      let q = front ++ (a ∷ b ∷ c ∷ d ∷ e ∷ []) in
       let lp : length p ≡ 79 = simp length-append (omega arith) in
-      let lq : length q ≡ 80 = simp length-append (omega arith) in
-      ap (λ (l : List ℕ). set (set l 79 v) 80 u) (sym (append-assoc front (a ∷ b ∷ c ∷ []) (d ∷ e ∷ f ∷ [])))
-      ∙ ap (λ (l : List ℕ). set l 80 u) (set-at p d (e ∷ f ∷ []) v 79 lp ∙ append-assoc front (a ∷ b ∷ c ∷ []) (v ∷ e ∷ f ∷ []) ∙ sym (append-assoc front (a ∷ b ∷ c ∷ v ∷ []) (e ∷ f ∷ [])))
-      ∙ set-at q e (f ∷ []) u 80 lq
-      ∙ append-assoc front (a ∷ b ∷ c ∷ v ∷ []) (u ∷ f ∷ [])
+      let lq : length q ≡ 81 = simp length-append (omega arith) in
+      let ln : length ns ≡ 82 = ap length is ∙ simp length-append (omega arith) in
+      let head : take 79 ns ≡ p = ap (take 79) (is ∙ sym (append-assoc front (a ∷ b ∷ c ∷ []) (d ∷ e ∷ f ∷ []))) ∙ take-at p (d ∷ e ∷ f ∷ []) 79 lp in
+      let tail : drop 81 ns ≡ f ∷ [] = ap (drop 81) (is ∙ sym (append-assoc front (a ∷ b ∷ c ∷ d ∷ e ∷ []) (f ∷ []))) ∙ drop-at q (f ∷ []) 81 lq in
+      put-fits ns 79 (v ∷ u ∷ []) (omega arith) refl
+      ∙ rw (head, tail)
+      (append-assoc p (v ∷ u ∷ []) (f ∷ []) ∙ append-assoc front (a ∷ b ∷ c ∷ []) (v ∷ u ∷ f ∷ []))
 
-pub grown : (w : CAFWriter) (n : ℕ) → length (w .labels) ≡ 64 → set (set (recordNumbers w) 79 (w .«file_len» + n)) 80 (w .«data_count» + n) ≡ recordNumbers (withData w n)
+pub grown : (w : CAFWriter) (n : ℕ) → length (w .labels) ≡ 64 → putAt (recordNumbers w) 79 ((w .«file_len» + n) ∷ (w .«data_count» + n) ∷ []) ≡ recordNumbers (withData w n)
 unfolding recordNumbers
 grown w n l =
     let front = formatNumbers (w .format) ++ (orderNumber (w .endianness) ∷ layoutKind (w .layout) ∷ layoutTag (w .layout) ∷ w .«label_count» ∷ []) ++ w .labels in
     let lf = length-format (w .format) in
     let long : length front ≡ 76 = simp length-append (omega arith) in
-    six-set front long _ _ _ _ _ _ (w .«file_len» + n) (w .«data_count» + n)
+    two-put front long _ _ _ _ _ _ (w .«file_len» + n) (w .«data_count» + n) refl
 
 -- the numbers of data calls, from what is seen in the array
 module _ (held : List ℕ) (room n : ℕ) where
@@ -56,7 +64,7 @@ module _ (held : List ℕ) (room n : ℕ) where
   unfolding soundIn dataNumber recordOf
   data-seen = go (isRecord held)
     where
-      go : (b : Bool) → seen (cond b (sound (recordOf held) room) false) ≡ cond b (seen (sound (recordOf held) room)) badWriter
+      go : (b : Bool) → seen (b && sound (recordOf held) room) ≡ cond b (seen (sound (recordOf held) room)) badWriter
       go true = refl
       go false = refl
 
@@ -74,7 +82,7 @@ module _ (held : List ℕ) (room n : ℕ) where
   unfolding soundIn samplesNumber recordOf
   samples-seen = ap (seenSamples (soundIn held room)) absent-seen ∙ go (isRecord held)
     where
-      go : (b : Bool) → seenSamples (cond b (sound (recordOf held) room) false) (isAbsent (maybeOf held)) ≡ cond b (seenSamples (sound (recordOf held) room) (isAbsent (maybeOf held))) badWriter
+      go : (b : Bool) → seenSamples (b && sound (recordOf held) room) (isAbsent (maybeOf held)) ≡ cond b (seenSamples (sound (recordOf held) room) (isAbsent (maybeOf held))) badWriter
       go true = refl
       go false = refl
 
@@ -108,3 +116,21 @@ module _ (held buf : List ℕ) (number : CAFWriter → ℕ) (o : CAFWriter → O
   changed-called is e d k b =
       let w = recordOf held in
       rw (on-record held call is, accepted (number w) w (o w) e) (record { number = sym d; kept = rw d k; stored = b })
+
+-- what an accepted call of n bytes has of its array
+rate-seen : (held : List ℕ) → formatSound (recordOf held) ≡ true → rateSound (maybeOf held) ≡ true
+unfolding formatSound recordOf
+rate-seen held f = two (rateSound (maybeOf held)) _ f .0
+
+pub grow-allowed : (held : List ℕ) (room n : ℕ) → isRecord held ≡ true → dataNumber (recordOf held) room n ≡ done
+    → (isRecord held ≡ true) × (rateSound (maybeOf held) ≡ true) × (at held 79 + n < 2 ^ 64) × (at held 80 + n < 2 ^ 64)
+unfolding recordOf
+grow-allowed held room n is e =
+    let w = recordOf held in
+    let h = data-allowed w room n e in
+    let s = sound-alone w room (h .is-sound) in
+    let p = headed w (h .header) (s .places) in
+    (is, rate-seen held (s .format), omega (arith, h .in-file), omega (arith, h .in-file, p .count))
+
+pub labels-long : (held : List ℕ) → isRecord held ≡ true → length (labelsIn held) ≡ 64
+labels-long held is = let l = is-record held is .places in simp (length-take, length-drop) (omega arith)

@@ -4,6 +4,7 @@ use crate::kept::keep;
 use answers::BAD_WRITER;
 use answers::DONE;
 use byteorder::store::store;
+use numbers::lent_numbers::put;
 use numbers::words::number_at;
 use pcm::packing::pack_first;
 use pcm::sample::SAMPLE_SIZE;
@@ -48,11 +49,11 @@ fn grow(held: &mut [u64], n: usize)
     requires { ⌜ (isRecord (now held) ≡ true) × (rateSound (maybeOf (now held)) ≡ true) × (at (now held) 79 + n < 2 ^ 64) × (at (now held) 80 + n < 2 ^ 64) ⌝ }
     ensures { λ _. ⌜ now (held .exit) ≡ recordNumbers (withData (recordOf (now (held .entry))) n) ⌝ }
 {
-    let len = held[FILE_LEN] + n as u64;
-    let count = held[DATA_COUNT] + n as u64;
+    let len = number_at(held, FILE_LEN) + n as u64;
+    let count = number_at(held, DATA_COUNT) + n as u64;
+    let both = [len, count];
     tidy(held);
-    held[FILE_LEN] = len;
-    held[DATA_COUNT] = count;
+    put(held, FILE_LEN, &both);
 }
 
 fn data_number_on(held: &[u64], room: usize, n: usize) -> u32
