@@ -24,12 +24,13 @@ use reading::sizes::VERSION;
 ghost use mathlib.Core.Path.{_≡_};
 ghost use mathlib.Core.Bool.{false};
 ghost use Prim.Native.Nat.{_+_, _≤_};
-ghost use lib.ListN.{length};
-ghost use Rattle.byteorder.specs.Splice.{splice};
+ghost use lib.ListN.{length, take};
+ghost use Rattle.byteorder.specs.Big.{bigBytes};
+ghost use Rattle.byteorder.specs.Splice.{splice, storeCount, storeFirst};
 ghost use Rattle.byteorder.specs.Rate.{notANumber};
 ghost use Rattle.layout.specs.Chan.{chanBody};
 ghost use Rattle.layout.specs.Setting.{labelPlaces};
-ghost use Rattle.reading.specs.Types.{typeSize, chunkHeaderSize, 'chan'};
+ghost use Rattle.reading.specs.Types.{typeSize, chunkHeaderSize, openSize, 'chan'};
 ghost use Rattle.reading.specs.Grammar.{chunkHeader, chunk, otherChunks};
 ghost use Rattle.header_bytes.specs.Made.{layoutChunks};
 ghost use Rattle.header_bytes.specs.Put.{beforeLayout, layoutPlace, openHead, longestHeader, headerIn};
@@ -114,4 +115,28 @@ pub fn put_header(
     let at = put_layout(out, layout, labels);
     put_data_head(out, at);
     at + DATA_HEAD
+}
+
+// With the first `count` of these labels, or all of fewer.
+pub fn put_header_of(
+    out: &mut [u8],
+    format: AudioFormat,
+    layout: ChannelLayout,
+    labels: &[u32],
+    count: usize,
+) -> usize
+    ensures { λ r. ⌜ (r ≡ length (headerIn (length (now (out .entry))) format layout (take count (now (labels .entry))))) × (now (out .exit) ≡ splice (now (out .entry)) 0 (headerIn (length (now (out .entry))) format layout (take count (now (labels .entry))))) ⌝ }
+{
+    if labels.len() < count {
+        return put_header(out, format, layout, labels);
+    }
+    put_header(out, format, layout, &labels[..count])
+}
+
+// The first n stores of -1 into a size field. All eight are made, whatever the field holds.
+pub fn put_open_size(buf: &mut [u8], at: usize, n: usize) -> usize
+    ensures { λ r. ⌜ (r ≡ storeCount n 8 at (length (now (buf .entry)))) × (now (buf .exit) ≡ storeFirst n (bigBytes 8 openSize) at (now (buf .entry))) ⌝ }
+{
+    let open = u64_bytes(OPEN);
+    store(buf, at, &open, n)
 }

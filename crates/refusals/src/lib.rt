@@ -3,5 +3,6 @@
 pub mod numbers;
 pub mod of_format;
 pub mod of_layout;
+pub mod of_reading;
 pub mod places;
 pub mod room;

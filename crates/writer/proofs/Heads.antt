@@ -1,8 +1,8 @@
 -- The header of a record: what a sound record says of it, and a slice that it stands in.
-use mathlib.Core.Path.{_≡_, refl, sym, _∙_, ap, subst}
+use mathlib.Core.Path.{_≡_, refl, sym, _∙_, ap}
 use mathlib.Core.Bool.{true, false}
 use mathlib.Core.List.{List}
-use Prim.Native.Nat.{ℕ, _≤_, min}
+use Prim.Native.Nat.{ℕ, _≤_}
 use native.Mathlib.Omega.{arith}
 use lib.ListN.{length, take}
 use lib.Seq.{length-take-le}
@@ -11,7 +11,6 @@ use Rattle.byteorder.specs.Rate.{notANumber}
 use Rattle.byteorder.specs.Splice.{splice}
 use Rattle.byteorder.proofs.Laws.{length-splice}
 use Rattle.byteorder.proofs.Places.{values-there}
-use Rattle.byteorder.proofs.Budget.{take-min}
 use Rattle.format.specs.Flags.{endiannessFor, sameOrder}
 use Rattle.format.specs.declared.AudioFormat.{AudioFormat}
 use Rattle.format.specs.declared.MaybeFormat.{MaybeFormat}
@@ -21,8 +20,9 @@ use Rattle.layout.specs.Setting.{labelPlaces}
 use Rattle.layout.specs.declared.ChannelLayout.{ChannelLayout}
 use Rattle.layout.specs.declared.ChannelLayout.the-variants.{Described}
 use Rattle.header_bytes.specs.Made.{headerBytes, startOf}
-use Rattle.header_bytes.specs.Put.{longestHeader}
+use Rattle.header_bytes.specs.Put.{longestHeader, headerIn}
 use Rattle.header_bytes.proofs.Made.{header-length}
+use Rattle.header_bytes.proofs.Parts.{fits, header-in, header-small}
 use Rattle.refusals.specs.Numbers.{isAbsent}
 use Rattle.refusals.specs.Sound.{rateSound, layoutSoundAs}
 use Rattle.writer.specs.Header.{headerWith, headerOf}
@@ -31,10 +31,6 @@ use Rattle.writer.specs.Sound.{formatSound, layoutSound, soundAlone}
 use Rattle.writer.specs.declared.CAFWriter.{CAFWriter}
 use Rattle.writer.proofs.Tests.{two, true-false}
 use Rattle.writer.proofs.Facts.{alone}
-
--- the labels that count, of an array of 64
-pub labels-within : (places : List ℕ) (count : ℕ) → length places ≡ labelPlaces → take (min count labelPlaces) places ≡ take count places
-labels-within places count e = subst (λ (k : ℕ). take (min count k) places ≡ take count places) e (take-min count places)
 
 -- a described layout's labels are as many as the record says
 pub described-few : (w : CAFWriter) → soundAlone w ≡ true → w .layout ≡ Described → w .«label_count» ≤ labelPlaces
@@ -66,14 +62,20 @@ header-start w e =
     let p = present (w .format) e in
     ap length (header-of w (p .0) (p .1)) ∙ header-length (p .0) (w .layout) (labelsOf w)
 
--- a slice with a header at its start
+-- a slice with the header of this format, layout and labels at its start
 pub record Filled (top last : List ℕ) (n : ℕ) : Type 0 where
   pub within : n ≤ length last
   pub many : n ≡ length (take n last)
   pub is : take n last ≡ top
 
-pub filled : (space top last : List ℕ) (n : ℕ) → length space ≡ longestHeader → length top ≤ longestHeader → n ≡ length top → last ≡ splice space 0 top → Filled top last n
-filled space top last n l small e is =
+pub filled : (f : AudioFormat) (layout : ChannelLayout) (ls space last : List ℕ) (n : ℕ) → length space ≡ longestHeader → length ls ≤ labelPlaces → notANumber (f .«sample_rate») ≡ false
+    → n ≡ length (headerIn (length space) f layout ls) → last ≡ splice space 0 (headerIn (length space) f layout ls) → Filled (headerBytes f layout ls) last n
+filled f layout ls space last n l few rate many put =
+    let top = headerBytes f layout ls in
+    let put-is = header-in (length space) f layout ls (fits (length space) f ls (omega arith) few rate) in
+    let e : n ≡ length top = many ∙ ap length put-is in
+    let is : last ≡ splice space 0 top = put ∙ ap (λ (x : List ℕ). splice space 0 x) put-is in
+    let small = header-small f layout ls few in
     let k : length last ≡ length space = ap length is ∙ length-splice space 0 top (omega arith) in
     record {
       within = omega arith;
