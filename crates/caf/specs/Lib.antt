@@ -1,4 +1,1 @@
-pub mod ReadingNumbers
-pub mod LayoutNumbers
-pub mod ChanNumbers
 pub mod RecordMade

@@ -2,7 +2,6 @@
 // any lengths and any contents: none has a `requires`.
 pub mod blocks;
 pub mod chan;
-mod choices;
 pub mod counted;
 pub mod layouts;
 pub mod made;

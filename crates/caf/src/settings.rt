@@ -1,7 +1,7 @@
 // The settings, for C. `held` is the array that keeps the record.
-use crate::choices::byte_order;
-use crate::choices::sample_type;
 use answers::BAD_WRITER;
+use numbers::choices::byte_order;
+use numbers::choices::sample_type;
 use record_calls::kept::keep;
 use record_numbers::record_from_numbers::record_in;
 ghost use Rattle.writer.specs.Settings.{formatCall, tagCall, labelsCall, configureCall};

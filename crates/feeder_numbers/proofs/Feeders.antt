@@ -1,13 +1,12 @@
 -- The feeding record and the array that stands for it.
 use mathlib.Core.Path.{_≡_, refl, sym, _∙_, ap}
-use mathlib.Core.Bool.{true, false, cond, not}
+use mathlib.Core.Bool.{true, cond}
 use mathlib.Core.List.{List, [], _∷_, _++_}
 use Prim.Native.Nat.{ℕ, _<_, _^_}
 use native.Mathlib.Omega.{arith}
 use lib.Dec.{leb, eqb}
 use lib.ListN.{length, getD, take, drop}
-use borrow.Author.Tests.{eqb-true, ltb-true, eq-eqb, not-true, not-false}
-use Rattle.answers.specs.Numbers.{badWriter}
+use borrow.Author.Tests.{eqb-true, ltb-true, eq-eqb}
 use Rattle.byteorder.specs.Big.{bigAt, bigBytes}
 use Rattle.byteorder.specs.Splice.{splice, storeFirst}
 use Rattle.byteorder.proofs.Budget.{whole-done}
@@ -15,14 +14,11 @@ use Rattle.byteorder.proofs.Laws.{length-splice, more}
 use Rattle.feeder.specs.declared.Phase.{Phase}
 use Rattle.feeder.specs.declared.Phase.the-variants.{FileHeader, FirstHeader, Desc, Header, Skipping, Edit, OpenData, ClosedData, Refused}
 use Rattle.feeder.specs.declared.Feeder.{Feeder}
-use Rattle.feeding.specs.declared.Fed.{Fed}
 use Rattle.reading.proofs.Choice.{both}
 use Rattle.numbers.specs.Words.{at, low, isWord, allWords}
 use Rattle.numbers.specs.FormatNumbers.{audioOf, audioLow}
 use Rattle.numbers.specs.Lent.{putAt}
-use Rattle.feeder_numbers.specs.FeederNumbers.{feederPlaces, phaseKind, phaseFormat, phaseNumber, phaseSize, phaseStart, feederNumbers, feederOf, isFeeder, heldFeeder}
-use Rattle.feeder_numbers.specs.declared.HeldFeeder.{HeldFeeder}
-use Rattle.feeder_numbers.specs.FeederCalls.{callOn, feederAfter, FeederCall}
+use Rattle.feeder_numbers.specs.FeederNumbers.{feederPlaces, phaseKind, phaseFormat, phaseNumber, phaseSize, phaseStart, feederNumbers, feederOf, isFeeder}
 use Rattle.numbers.proofs.Puts.{put-fits, whole}
 use Rattle.numbers.proofs.WordLaws.{low-word, audio-words}
 
@@ -104,23 +100,3 @@ pub kept-whole : (d ns : List ℕ) (r : Feeder) {after : List ℕ} → length d 
 kept-whole d ns r l e p =
     let long : length ns ≡ feederPlaces = ap length e ∙ feeder-long r in
     put-fits d 0 ns (omega arith) p ∙ ap (splice d 0) e ∙ whole d (feederNumbers r) (feeder-long r ∙ sym l)
-
--- what an array holds, and the test of it
-pub none-feeder : (held : List ℕ) {k : HeldFeeder} → k ≡ heldFeeder held → not (k .stands) ≡ true → isFeeder held ≡ false
-none-feeder held e n = sym (ap (λ (x : HeldFeeder). x .stands) e) ∙ not-true _ n
-
-pub feeder-held : (held : List ℕ) {k : HeldFeeder} → k ≡ heldFeeder held → not (k .stands) ≡ false → (isFeeder held ≡ true) × (k .feeder ≡ feederOf held)
-feeder-held held e n =
-    let s : isFeeder held ≡ true = sym (ap (λ (x : HeldFeeder). x .stands) e) ∙ not-false _ n in
-    (s, ap (λ (x : HeldFeeder). x .feeder) e ∙ rw s)
-
--- the two ways of a call on the record
-module _ (held : List ℕ) (call : Feeder → Fed) where
-  pub none-called : isFeeder held ≡ false → FeederCall held (callOn held call) badWriter held
-  unfolding callOn feederAfter
-  none-called e = record { number = rw e; kept = rw e }
-
-  pub feeder-called : {fed : Fed} {r : ℕ} {after : List ℕ} → isFeeder held ≡ true → fed ≡ call (feederOf held) → r ≡ fed .number → after ≡ feederAfter held fed
-      → FeederCall held (callOn held call) r after
-  unfolding callOn
-  feeder-called e p n k = record { number = rw e (n ∙ ap (λ (x : Fed). x .number) p); kept = rw e (k ∙ ap (feederAfter held) p) }

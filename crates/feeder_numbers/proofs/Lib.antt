@@ -1,3 +1,1 @@
 pub mod Feeders
-pub mod FeederTyped
-pub mod FedThrough

@@ -1,3 +1,1 @@
 pub mod FeederNumbers
-pub mod FeederCalls
-pub mod FeederClaims

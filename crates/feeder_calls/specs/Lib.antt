@@ -1,0 +1,2 @@
+pub mod FeederCalls
+pub mod FeederClaims

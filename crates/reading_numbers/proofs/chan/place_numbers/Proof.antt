@@ -1,0 +1,18 @@
+use borrow.Author.Needs.{needs}
+use Rattle.reading_numbers.proofs.chan.place_numbers.Statement.{statement}
+use Rattle.reading_numbers.proofs.chan.place_numbers.Tie as tie
+
+enum-known-place : tie.Need-enum-known-place
+enum-known-place c = search needs
+
+enum-told : tie.Need-enum-told
+enum-told c = search needs
+
+returns : tie.Need-returns
+returns c = rw (c .before .place .given .1)
+
+returns-2 : tie.Need-returns-2
+returns-2 c = search needs
+
+pub place-numbers-spec : {M : Type 1} → statement M
+place-numbers-spec = tie.close (tie.spec enum-known-place enum-told returns returns-2)

@@ -1,0 +1,3 @@
+pub mod ReadingNumbers
+pub mod LayoutNumbers
+pub mod ChanNumbers

@@ -1,0 +1,5 @@
+// What the readings, a `chan` and a search for a layout give C: a `tell_` function returns the answer's number and puts its other numbers into
+// a lent array. It tests the array's places first: tested last, an answer would have to be put together before it is written.
+pub mod chan;
+pub mod layouts;
+pub mod readings;
