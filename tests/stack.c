@@ -27,7 +27,7 @@ enum {
     SMALL = 16 << 10   /* of it is there: the rest is the guard */
 };
 
-/* The bounds of the calls that look labels up, alone and in a setting; of all others CAF_STACK is the bound. Measured were 128 and 2600
+/* The bounds of the calls that look labels up, alone and in a setting; of all others CAF_STACK is the bound. Measured were 152 and 1688
  * bytes on x86-64, 128 and 2656 on aarch64. */
 enum {
 #ifdef __x86_64__

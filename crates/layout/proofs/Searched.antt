@@ -1,28 +1,24 @@
 -- Rows that never answer may be left out of the search, and all others answer their own order.
 use mathlib.Core.Path.{_≡_, refl, sym, _∙_, ap}
-use mathlib.Core.Bool.{Bool, true, false, cond, not, _||_, true≢false}
+use mathlib.Core.Bool.{Bool, true, false, cond, not, _&&_, _||_, true≢false}
 use mathlib.Core.List.{List, [], _∷_}
 use mathlib.Core.Logic.{_⊎_, inl, inr}
-use Prim.Native.Nat.{ℕ, zero, suc, _+_, _<_, _≤_}
-use native.Mathlib.Nat.{add-zero, zero-add}
-use native.Mathlib.Omega.{arith}
+use Prim.Native.Nat.{ℕ, suc, _<_}
 use lib.ListN.{length, getD, drop}
 use lib.Seq.{drop-cons}
-use lib.Dec.{eqb, ltb}
-use borrow.Author.Tests.{eqb-true, ltb-true, ltb-false}
+use lib.Dec.{eqb}
+use borrow.Author.Tests.{eqb-true}
 use Rattle.byteorder.specs.Same.{exactly}
-use Rattle.byteorder.proofs.Same.{exactly-eq}
+use Rattle.byteorder.proofs.Same.{exactly-eq, exactly-no}
 use Rattle.layout.specs.Known.{among}
-use Rattle.layout.specs.Table.{StandardLayout, standardLayouts, beyond, row, rowAt, rowOrder}
+use Rattle.layout.specs.Table.{StandardLayout, standardLayouts, beyond, rowAt, rowOrder}
+use Rattle.layout.specs.Counts.{«43-rows»}
 use Rattle.layout.specs.Search.{firstRow, layoutFor, hasTag}
 use Rattle.layout.specs.Searched.{silent, unless, without, searched, NeverAnswered, OthersAnswer, SearchedEnough}
-use Rattle.layout.specs.Claims.{RowRules}
-use Rattle.layout.specs.declared.Row.{Row}
 use Rattle.layout.specs.declared.ChannelLayout.{ChannelLayout}
 use Rattle.layout.specs.declared.ChannelLayout.the-variants.{NoLayout, Tagged, Described}
 use Rattle.layout.proofs.Every.{every, each, both}
 use Rattle.layout.proofs.Rows.{order-kept}
-use Rattle.layout.proofs.Rules.{rulesTest, rules, table-rules}
 use Rattle.layout.proofs.Tags.{tagPasses, first-passes}
 
 is-tag : (l : ChannelLayout) (t : ℕ) → hasTag l t ≡ true → l ≡ Tagged t
@@ -113,56 +109,25 @@ others-answer =
       own = λ i h. is-tag (layoutFor (getD searched i beyond .order)) (getD searched i beyond .tag) (each own searched i all-own (rw «40-rows» h));
     }
 
--- where the row that is searched at place i stands in the table, as the code finds it
-abbrev placeOf : ℕ → ℕ
-placeOf i = cond (ltb i 16) i (cond (ltb i 29) (i + 1) (cond (ltb i 35) (i + 2) (i + 3)))
-
-listed : (ℕ → StandardLayout) → ℕ → ℕ → List StandardLayout
-listed f k zero = []
-listed f k (suc n) = f k ∷ listed f (suc k) n
-
-listed-at : (f : ℕ → StandardLayout) (k n i : ℕ) → i < n → getD (listed f k n) i beyond ≡ f (k + i)
-unfolding listed
-listed-at f k zero i h = absurd (let z : ⊥ = omega arith in z)
-listed-at f k (suc n) zero h = ap f (sym (add-zero k))
-listed-at f k (suc n) (suc i) h = let e : suc k + i ≡ k + suc i = omega arith in listed-at f (suc k) n i (omega arith) ∙ ap f e
-
-searched-listed : listed (λ i. getD standardLayouts (placeOf i) beyond) 0 40 ≡ searched
-unfolding searched standardLayouts listed
-searched-listed = refl
-
-place-row : (i : ℕ) → i < 40 → rowAt (placeOf i) ≡ row (getD searched i beyond)
-place-row i h =
-    let z : 0 + i ≡ i = zero-add i in
-    let at : ℕ → StandardLayout = λ j. getD standardLayouts (placeOf j) beyond in
-    ap row (ap at (sym z) ∙ sym (listed-at at 0 40 i h) ∙ ap (λ (rs : List StandardLayout). getD rs i beyond) searched-listed)
-
-pub searched-place : (i r : ℕ) → i < 40 → (i < 16 → r ≡ i) → (16 ≤ i → i < 29 → r ≡ i + 1) → (29 ≤ i → i < 35 → r ≡ i + 2) → (35 ≤ i → r ≡ i + 3)
-    → rowAt r ≡ row (getD searched i beyond)
-searched-place i r h a b c d = ap rowAt (go (ltb i 16) (ltb i 29) (ltb i 35) refl refl refl) ∙ place-row i h
-  where
-    go : (x y z : Bool) → ltb i 16 ≡ x → ltb i 29 ≡ y → ltb i 35 ≡ z → r ≡ cond x i (cond y (i + 1) (cond z (i + 2) (i + 3)))
-    go true y z e f g = a (ltb-true i 16 e)
-    go false true z e f g = b (ltb-false i 16 e) (ltb-true i 29 f)
-    go false false true e f g = c (ltb-false i 29 f) (ltb-true i 35 g)
-    go false false false e f g = d (ltb-false i 35 g)
-
 -- one turn of the search
-pub next-row : (i : ℕ) (ls : List ℕ) (r : Row) → r ≡ row (getD searched i beyond) → i < 40
-    → firstRow (drop i searched) ls ≡ cond (exactly (rowOrder r) ls) (Tagged (r .tag)) (firstRow (drop (suc i) searched) ls)
-next-row i ls r e h = rw (drop-cons searched i beyond (rw «40-rows» h), e, order-kept)
-
--- what is tested of all rows holds of those that are left
-kept : (p : StandardLayout → Bool) (ts : List ℕ) (rs : List StandardLayout) → every p rs ≡ true → every p (without ts rs) ≡ true
-kept p ts [] h = refl
-kept p ts (r ∷ rs) h =
-    let d = both (p r) (every p rs) h in
-    go (among (r .tag) ts) (d .0) (kept p ts rs (d .1))
+pub next-row : (i : ℕ) (ls : List ℕ) → i < 43
+    → firstRow (without silent (drop i standardLayouts)) ls ≡ cond (not (among (rowAt i .tag) silent) && exactly (rowOrder (rowAt i)) ls) (Tagged (rowAt i .tag)) (firstRow (without silent (drop (suc i) standardLayouts)) ls)
+next-row i ls h =
+    let r = getD standardLayouts i beyond in
+    let rest = without silent (drop (suc i) standardLayouts) in
+    rw (drop-cons standardLayouts i beyond (rw «43-rows» h), order-kept r) (go r rest (among (r .tag) silent))
   where
-    go : (s : Bool) → p r ≡ true → every p (without ts rs) ≡ true → every p (unless s r (without ts rs)) ≡ true
-    go true x i = i
-    go false x i = rw x i
+    go : (r : StandardLayout) (rest : List StandardLayout) (s : Bool)
+        → firstRow (unless s r rest) ls ≡ cond (not s && exactly (r .order) ls) (Tagged (r .tag)) (firstRow rest ls)
+    go r rest true = refl
+    go r rest false = refl
 
-pub searched-rules : (i : ℕ) → i < 40 → RowRules (getD searched i beyond)
-unfolding searched
-searched-rules i h = rules (getD searched i beyond) (each rulesTest searched i (kept rulesTest silent standardLayouts table-rules) (rw «40-rows» h))
+-- a row with another count does not answer
+pub other-count : (i : ℕ) (ls : List ℕ) → (rowAt i .count ≡ length ls → ⊥) → not (among (rowAt i .tag) silent) && exactly (rowOrder (rowAt i)) ls ≡ false
+other-count i ls other =
+    let r = getD standardLayouts i beyond in
+    rw (order-kept r, exactly-no (r .order) ls (λ e. other (ap length e))) (go (among (r .tag) silent))
+  where
+    go : (s : Bool) → not s && false ≡ false
+    go true = refl
+    go false = refl

@@ -6,7 +6,7 @@ ghost use mathlib.Core.Bool.{_&&_};
 ghost use lib.Dec.{leb};
 ghost use Rattle.layout.specs.Known.{among, knownLabel, knownTag, allKnown};
 
-fn is_among(n: u32, table: &[u32]) -> bool
+pub(crate) fn is_among(n: u32, table: &[u32]) -> bool
     ensures { λ r. ⌜ r ≡ among n (now (table .entry)) ⌝ }
 {
     let mut i: usize = 0;

@@ -28,15 +28,9 @@ use crate::label::XYX;
 use crate::label::XYY;
 use crate::tag;
 ghost use mathlib.Core.Path.{_≡_};
-ghost use Prim.Native.Nat.{_<_};
-ghost use lib.ListN.{getD};
-ghost use Rattle.layout.specs.Table.{beyond, row, rowAt};
-ghost use Rattle.layout.specs.Searched.{searched};
+ghost use Rattle.layout.specs.Table.{rowAt};
 
 pub const ROWS: usize = 43;
-
-// Those that are searched (document 02, T-07): three never answer, since an earlier row has the same labels.
-pub(crate) const SEARCHED: usize = 40;
 
 const MONO: Row = Row {
     tag: tag::MONO,
@@ -355,26 +349,10 @@ pub fn row_at(i: usize) -> Row
     }
 }
 
-// After MPEG_5_0_A, ITU_2_1 and DVD_18 one row each is passed over: MPEG_5_0_B, ITU_2_2 and DVD_20.
-fn place_of(i: usize) -> usize
-    requires { ⌜ i < 40 ⌝ }
-    ensures { λ r. ⌜ rowAt r ≡ row (getD searched i beyond) ⌝ }
+// The count alone: the compiler then makes nothing else of the row.
+pub(crate) fn count_at(i: usize) -> usize
+    ensures { λ r. ⌜ r ≡ rowAt i .count ⌝ }
 {
-    if i < 16 {
-        return i;
-    }
-    if i < 29 {
-        return i + 1;
-    }
-    if i < 35 {
-        return i + 2;
-    }
-    i + 3
-}
-
-pub(crate) fn searched_at(i: usize) -> Row
-    requires { ⌜ i < 40 ⌝ }
-    ensures { λ r. ⌜ r ≡ row (getD searched i beyond) ⌝ }
-{
-    row_at(place_of(i))
+    let row = row_at(i);
+    row.count
 }

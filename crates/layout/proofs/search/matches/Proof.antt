@@ -1,86 +1,63 @@
-use mathlib.Core.Path.{_≡_, refl, ap, sym, _∙_}
-use mathlib.Core.List.{List}
-use Prim.Native.Nat.{ℕ, _≤_, _<_, _-_}
-use native.Mathlib.Numerals.{add-one}
-use native.Mathlib.Omega.{arith}
-use lib.ListN.{length, take, getD, length-take}
-use lib.Seq.{take-suc, take-all, getD-take}
+use mathlib.Core.Path.{_≡_, ap, sym, _∙_}
+use mathlib.Core.Bool.{true, false}
 use borrow.Author.Needs.{needs}
-use Rattle.byteorder.proofs.Same.{exactly-refl, exactly-no}
-use Rattle.layout.specs.Table.{rowOrder}
+use Rattle.byteorder.specs.Same.{exactly}
+use Rattle.layout.specs.Known.{among}
+use Rattle.layout.specs.Table.{rowAt, rowOrder}
+use Rattle.layout.specs.Counts.{«43-rows»}
+use Rattle.layout.specs.Searched.{silent}
+use Rattle.layout.specs.declared.Row.{Row}
+use Rattle.layout.proofs.Rules.{each-row}
+use Rattle.layout.proofs.Searched.{other-count}
 use Rattle.layout.proofs.search.matches.Statement.{statement}
 use Rattle.layout.proofs.search.matches.Tie as tie
 
-abbrev Inv-loop : tie.InvT-loop
-Inv-loop labels row n i₀ i = (i ≤ n) × (take i (row .labels) ≡ take i labels)
+count-at-requires : tie.Need-count-at-requires
+count-at-requires c κs = search needs
 
-abbrev μ-loop : tie.MeasureT-loop
-μ-loop labels row n i₀ i = n - i
-
-returns : tie.Need-returns Inv-loop μ-loop
+returns : tie.Need-returns
 returns c =
-    let a = c .before .args in
-    let k : length (a .t1 .labels) ≡ 8 = search needs in
-    sym (exactly-no (rowOrder (a .t1)) (a .labels .now) (λ e. c .if1 .taken (sym (ap length e) ∙ length-take (a .t1 .count) (a .t1 .labels) ∙ omega arith)))
-
-loop-holds : tie.Need-loop-holds Inv-loop μ-loop
-loop-holds c = (omega arith, refl)
-
-mul-if2 : tie.Need-mul-if2 Inv-loop μ-loop
-mul-if2 c = search needs
-
-element-copy-out-if2 : tie.Need-element-copy-out-if2 Inv-loop μ-loop
-element-copy-out-if2 c = search needs
-
-mul-if2-2 : tie.Need-mul-if2-2 Inv-loop μ-loop
-mul-if2-2 c = search needs
-
-shared-slice-read-if2 : tie.Need-shared-slice-read-if2 Inv-loop μ-loop
-shared-slice-read-if2 c = search needs
-
-returns-2 : tie.Need-returns-2 Inv-loop μ-loop
-returns-2 c =
-    let a = c .before .before .before .before .before .before .args in
-    let i = c .before .before .before .before .loop .i in
-    sym (exactly-no (rowOrder (a .t1)) (a .labels .now) (λ e. c .if2 .taken (sym (getD-take (a .t1 .count) (a .t1 .labels) i 0 (omega arith)) ∙ ap (λ (x : List ℕ). getD x i 0) e)))
-
-add-i : tie.Need-add-i Inv-loop μ-loop
-add-i c = search needs
-
-loop-less : tie.Need-loop-less Inv-loop μ-loop
-loop-less c = search needs
-
-loop-again : tie.Need-loop-again Inv-loop μ-loop
-loop-again c =
-    let a = c .before .before .before .before .before .before .args in
-    let l = c .before .before .before .before .loop in
-    let k : length (a .t1 .labels) ≡ 8 = search needs in
-    let h1 : l .i < length (a .t1 .labels) = omega arith in
-    let h2 : l .i < length (a .labels .now) = omega arith in
-    (omega arith, rw (add-one, take-suc (a .t1 .labels) (l .i) 0 h1, take-suc (a .labels .now) (l .i) 0 h2, l .inv .1, c .if2 .left))
-
-returns-3 : tie.Need-returns-3 Inv-loop μ-loop
-returns-3 c =
     let a = c .before .before .before .args in
-    let l = c .before .loop in
-    let e : l .i ≡ a .t1 .count = omega arith in
-    let k : rowOrder (a .t1) ≡ a .labels .now = rw (← e) (l .inv .1) ∙ take-all (l .i) (a .labels .now) (omega arith) in
-    sym (rw k (exactly-refl (a .labels .now)))
+    sym (other-count (a .i) (a .labels .now) (λ e. c .if1 .taken (c .before .count-at .ensures ∙ e)))
+
+row-at-requires : tie.Need-row-at-requires
+row-at-requires c κs = search needs
+
+is-silent-requires : tie.Need-is-silent-requires
+is-silent-requires c κs = search needs
+
+returns-2 : tie.Need-returns-2
+returns-2 c =
+    let i = c .before .before .before .before .before .before .args .i in
+    let is : among (rowAt i .tag) silent ≡ true =
+    ap (λ (r : Row). among (r .tag) silent) (sym (c .before .before .row-at .ensures)) ∙ sym (c .before .is-silent .ensures) ∙ c .if2 .taken in
+    rw is
+
+has-labels-requires : tie.Need-has-labels-requires
+has-labels-requires c κs =
+    let counted = c .before .before .before .before in
+    let s = counted .before .before in
+    let r = c .before .before .row-at .ensures in (
+      rw r (each-row (s .args .i) (rw «43-rows» (s .pre)) .fits),
+      ap (λ (r : Row). r .count) r ∙ sym (counted .count-at .ensures) ∙ c .before .before .before .if1 .left,
+    )
+
+returns-3 : tie.Need-returns-3
+returns-3 c =
+    let a = c .before .before .before .before .before .before .before .args in
+    let r = c .before .before .before .row-at .ensures in
+    let is : among (rowAt (a .i) .tag) silent ≡ false =
+    ap (λ (r : Row). among (r .tag) silent) (sym r) ∙ sym (c .before .before .is-silent .ensures) ∙ c .before .if2 .left in
+    rw is (c .has-labels .ensures ∙ ap (λ (r : Row). exactly (rowOrder r) (a .labels .now)) r)
 
 pub matches-spec : {M : Type 1} → statement M
 matches-spec =
     tie.close
     (tie.spec
-    Inv-loop
-    μ-loop
+    count-at-requires
     returns
-    loop-holds
-    mul-if2
-    element-copy-out-if2
-    mul-if2-2
-    shared-slice-read-if2
+    row-at-requires
+    is-silent-requires
     returns-2
-    add-i
-    loop-less
-    loop-again
+    has-labels-requires
     returns-3)
