@@ -1,5 +1,5 @@
-//! Writes a sample of the Rust text's answers to standard output, as compare/README.md lays it out: sample [SEED].
-//! Only inputs inside 01's domain of equality are in it, so every answer is the text's own.
+//! Writes the cases of some kinds of a sample of the Rust text's answers to standard output, as compare/README.md lays it
+//! out: sample KINDS [SEED]. Only inputs inside 01's domain of equality are in it, so every answer is the text's own.
 
 use std::io::Write;
 
@@ -19,7 +19,7 @@ const RANDOM_FILES: usize = 35;
 const RANDOM_SCRIPTS: usize = 90;
 const RANDOM_SAMPLES: usize = 20;
 
-/// What the replaying program can hold.
+/// What a replaying program can hold; so much, or less, has the whole sample.
 const LONGEST: usize = 65536;
 
 /// The cases so far, and their length.
@@ -82,7 +82,8 @@ fn main() {
     known::check_all(&Rust);
     let mut sample = Sample { cases: Vec::new(), length: 0 };
     let rows = names::rows();
-    let seed = std::env::args().nth(1).map_or(SEED, |arg| arg.parse().expect("a number"));
+    let kinds = std::env::args().nth(1).expect("letters of kinds");
+    let seed = std::env::args().nth(2).map_or(SEED, |arg| arg.parse().expect("a number"));
     let random = &mut Random(seed);
 
     for head in files::HEADS {
@@ -115,6 +116,7 @@ fn main() {
         sample.script(scripts::random(random, &rows));
     }
 
+    sample.cases.retain(|case| kinds.as_bytes().contains(&case[0]));
     std::io::stdout().write_all(&sample.cases.concat()).expect("standard output takes the sample");
     eprintln!("{} cases", sample.cases.len());
 }

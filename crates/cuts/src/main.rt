@@ -60,8 +60,9 @@ fn one_session() {
     }
 }
 
-// After a header that is cut, at its first and at its last store; after data that are cut; after a finish that is cut.
-fn two_sessions() {
+fn main() {
+    one_session();
+    // two sessions: after a header that is cut, at its first and at its last store; after data that are cut; after a finish that is cut
     let film = started(0);
     one_more(then(film, 0, 1));
     one_more(then(film, 0, 67));
@@ -69,18 +70,9 @@ fn two_sessions() {
     two_more(film, 2);
     two_more(film, 4);
     two_more(film, 6);
-}
-
-// After a finished film: a resume that is cut, or data, or a finish, and then one more session.
-fn three_sessions() {
+    // three sessions, the first a finished film: a resume that is cut, or data, or a finish, and then one more session
     let film = then(started(2), 4, 8);
     two_more(film, 0);
     two_more(film, 2);
     two_more(film, 5);
-}
-
-fn main() {
-    one_session();
-    two_sessions();
-    three_sessions();
 }

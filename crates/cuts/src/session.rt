@@ -53,11 +53,6 @@ fn with_samples(w: CAFWriter, buf: &mut [u8], session: usize) -> CAFWriter {
     wrote.writer
 }
 
-fn finished(w: CAFWriter, buf: &mut [u8]) -> CAFWriter {
-    let wrote = w.finish(buf);
-    wrote.writer
-}
-
 // The record that the last call finds.
 fn before_last(w: CAFWriter, buf: &mut [u8], session: usize, last: u32) -> CAFWriter {
     match last {
@@ -70,7 +65,8 @@ fn before_last(w: CAFWriter, buf: &mut [u8], session: usize, last: u32) -> CAFWr
         6 => with_bytes(w, buf, session, AUDIO),
         7 => {
             let one = with_bytes(w, buf, session, 1);
-            finished(one, buf)
+            let wrote = one.finish(buf);
+            wrote.writer
         }
         _ => w,
     }
@@ -102,19 +98,15 @@ fn begun(layout: u32, buf: &mut [u8], last: u32, n: usize) -> Counted {
     calls(wrote.writer, buf, 0, last, n)
 }
 
-fn cut_resume(buf: &mut [u8], len: usize, n: usize) -> Counted {
-    let cut = CAFWriter::from_existing_file_counted(buf, len, n);
-    Counted {
-        number: cut.number,
-        stores: cut.stores,
-        file_len: cut.file_len,
-    }
-}
-
 // A later session, from a file of this length. Where the resume is refused it ends there.
 fn resumed(buf: &mut [u8], len: usize, session: usize, last: u32, n: usize) -> Counted {
     if last == 0 {
-        return cut_resume(buf, len, n);
+        let cut = CAFWriter::from_existing_file_counted(buf, len, n);
+        return Counted {
+            number: cut.number,
+            stores: cut.stores,
+            file_len: cut.file_len,
+        };
     }
     let back = CAFWriter::from_existing_file(buf, len);
     if back.number != DONE {

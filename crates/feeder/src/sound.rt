@@ -15,20 +15,16 @@ use byteorder::float::is_not_a_number;
 use format::AudioFormat;
 use reading::chunk::is_bad_data_size;
 use reading::sizes::CHUNK_HEADER;
-use reading::sizes::DESC;
 use reading::sizes::EDIT_COUNT;
 use reading::sizes::FILE_HEADER;
+use reading::sizes::FIRST_BODY;
+use reading::sizes::FIRST_END;
 use reading::sizes::NEGATIVE;
 ghost use mathlib.Core.Path.{_≡_};
 ghost use Prim.Native.Nat.{_-_, _≤_};
 ghost use lib.Dec.{leb};
 ghost use Rattle.feeder.specs.declared.Phase.the-variants.{Header as feeder·Header, Skipping as feeder·Skipping, Edit as feeder·Edit, OpenData as feeder·OpenData, ClosedData as feeder·ClosedData, Refused as feeder·Refused};
 ghost use Rattle.feeder.specs.Record.{pieceSize, isByBytes, rateIs, metWithin, headersBefore, isClosedSize, passedWithin, phaseSound, sound};
-
-// Where the first chunk's body begins, and what stands before the second chunk.
-const FIRST_BODY: usize = FILE_HEADER + CHUNK_HEADER;
-
-const AFTER_FIRST: usize = FIRST_BODY + DESC;
 
 fn rate_is(format: AudioFormat) -> bool
     ensures { λ b. ⌜ b ≡ rateIs format ⌝ }
@@ -43,10 +39,10 @@ fn met_within(k: usize, n: usize) -> bool
     if k < 1 {
         return false;
     }
-    if n < AFTER_FIRST {
+    if n < FIRST_END {
         return false;
     }
-    k - 1 <= (n - AFTER_FIRST) / CHUNK_HEADER
+    k - 1 <= (n - FIRST_END) / CHUNK_HEADER
 }
 
 fn is_by_bytes(number: u32) -> bool
@@ -102,7 +98,7 @@ fn passed_within(data: DataChunk, n: usize) -> bool
             if !is_closed_size(size) {
                 return false;
             }
-            if start < AFTER_FIRST + EDIT_COUNT {
+            if start < FIRST_END + EDIT_COUNT {
                 return false;
             }
             if n < start {

@@ -82,7 +82,7 @@ module _ {M : Type 1} (𝓤 : URA M) (H : Heap 𝓤) (A : Atoms 𝓤) (W : Given
         show ! (λ (ws : CAFWriter × Fins κs ss ks (a .1)). sep 𝓤 (sem 𝓤 H A (lasts T′ κs a ws)) (c κs a .ensures g (R .answer r) (atExit T′ κs a ws))) (R .writer r, z .1) $ frame ! $
         use1 W (raw (c κs a .ensures g (R .answer r) (atExit T′ κs a (R .writer r, z .1)))) (agrees κs a g r (z .1)) $ keep ! (0 ∷ []) $ done !)
 
-    -- the method's triple, at the tokens behind the first, the record, and the other parameters as they are passed
+    -- the method's triple, at the tokens after the first, the record, and the other parameters as they are passed
     abbrev pub Known : Name → Type 1
     Known f =
         (κs : Lfts (suc n)) (qs : Shares (suc n)) (a : Args (T′ .signature) κs) (vss : Valss (typesAt ss κs))

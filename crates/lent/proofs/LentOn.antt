@@ -1,6 +1,6 @@
 -- The buffer lent on to a call: MIR takes the address of its first byte and makes the slice again, in two locals of its own.
 --     lends-on         the two assignments
---     reads-on         the call's operands: the slice made again, and the parameters behind the buffer
+--     reads-on         the call's operands: the slice made again, and the parameters after the buffer
 -- Assumes `Given`.
 use mathlib.Core.Path.{_≡_, refl}
 use Prim.Native.Nat.{ℕ}

@@ -26,7 +26,7 @@ abbrev pub copies : (ℕ → ℕ) → List Ty → List Operand
 copies at [] = []
 copies at (τ ∷ τs) = copy (place (at zero) []) ∷ copies (λ j. at (suc j)) τs
 
--- the number of the local that stands j behind the last of them
+-- the number of the local that stands j after the last of them
 abbrev pub past : List Ty → ℕ → ℕ
 past [] j = j
 past (τ ∷ τs) j = suc (past τs j)
@@ -51,9 +51,9 @@ module _ {M : Type 1} (𝓤 : URA M) (H : Heap 𝓤) where
   cells (τ ∷ τs) [] bs = ‵ ftrue
   cells (τ ∷ τs) (v ∷ vs) bs = ‵ (fat fullShare τ (bs .0) zero v) ⊛ ‵ (fdies τ (bs .0)) ⊛ cells τs vs (bs .1)
 
-  pub behind : (τs : List Ty) (bs : Blocks τs) (E : Env 𝓤 H) (j : ℕ) → getD (env τs bs ++ E) (past τs j) (noLocal 𝓤 H) ≡ getD E j (noLocal 𝓤 H)
-  behind [] bs E j = refl
-  behind (τ ∷ τs) bs E j = behind τs (bs .1) E j
+  pub after : (τs : List Ty) (bs : Blocks τs) (E : Env 𝓤 H) (j : ℕ) → getD (env τs bs ++ E) (past τs j) (noLocal 𝓤 H) ≡ getD E j (noLocal 𝓤 H)
+  after [] bs E j = refl
+  after (τ ∷ τs) bs E j = after τs (bs .1) E j
 
 module _ {M : Type 1} {𝓤 : URA M} {H : Heap 𝓤} {A : Atoms 𝓤} {K : Type 0} {W : Given 𝓤 H A} where
   -- `Run.antt`'s `from`, of a local that does not stand written out

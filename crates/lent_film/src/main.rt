@@ -1,7 +1,5 @@
 // A film through both sets of calls, side by side: the record by value, and the record lent. After each call the program prints the number,
 // the figures and the file's strict reading, and whether the two sets agree in these, in the file's length and in every byte of the buffer.
-pub mod kept;
-
 use answers::BAD_WRITER;
 use reading::StrictAnswer;
 use reading::strict::read_strict;
@@ -65,10 +63,12 @@ fn show_reading(answer: StrictAnswer) {
     }
 }
 
-fn report(name: &[u8], a: Wrote, b: Wrote, one: &[u8], two: &[u8]) {
-    let w = a.writer;
-    let stats = w.stats();
-    let len = w.file_len;
+// Prints what the two sets give, and hands on their records.
+fn report(name: &[u8], a: Wrote, b: Wrote, one: &[u8], two: &[u8]) -> Film {
+    let v = a.writer;
+    let w = b.writer;
+    let stats = v.stats();
+    let len = v.file_len;
     word(name);
     word(b" ");
     decimal(a.number as u64);
@@ -86,11 +86,6 @@ fn report(name: &[u8], a: Wrote, b: Wrote, one: &[u8], two: &[u8]) {
         }
     }
     newline();
-}
-
-fn both(a: Wrote, b: Wrote) -> Film {
-    let v = a.writer;
-    let w = b.writer;
     Film {
         by_value: v,
         lent: w,
@@ -98,57 +93,40 @@ fn both(a: Wrote, b: Wrote) -> Film {
 }
 
 fn tag(f: Film, number: u32, one: &[u8], two: &[u8]) -> Film {
-    let v = f.by_value;
-    let w = f.lent;
-    let a = v.set_channel_layout_tag(number);
-    let b = kept::set_channel_layout_tag(w, number);
-    report(b"tag", a, b, one, two);
-    both(a, b)
+    let a = f.by_value.set_channel_layout_tag(number);
+    let b = lent_by_value::set_channel_layout_tag(f.lent, number);
+    report(b"tag", a, b, one, two)
 }
 
 fn configure(f: Film, channels: u32, labels: &[u32], one: &[u8], two: &[u8]) -> Film {
-    let v = f.by_value;
-    let w = f.lent;
-    let a = v.configure_audio_format(48000.0, channels, 24, labels);
-    let b = kept::configure_audio_format(w, 48000.0, channels, 24, labels);
-    report(b"configure", a, b, one, two);
-    both(a, b)
+    let a = f.by_value
+        .configure_audio_format(48000.0, channels, 24, labels);
+    let b = lent_by_value::configure_audio_format(f.lent, 48000.0, channels, 24, labels);
+    report(b"configure", a, b, one, two)
 }
 
 fn header(f: Film, one: &mut [u8], two: &mut [u8]) -> Film {
-    let v = f.by_value;
-    let w = f.lent;
-    let a = v.write_header(one);
-    let b = kept::write_header(w, two);
-    report(b"header", a, b, one, two);
-    both(a, b)
+    let a = f.by_value.write_header(one);
+    let b = lent_by_value::write_header(f.lent, two);
+    report(b"header", a, b, one, two)
 }
 
 fn data(f: Film, bytes: &[u8], one: &mut [u8], two: &mut [u8]) -> Film {
-    let v = f.by_value;
-    let w = f.lent;
-    let a = v.write_data(one, bytes);
-    let b = kept::write_data(w, two, bytes);
-    report(b"data", a, b, one, two);
-    both(a, b)
+    let a = f.by_value.write_data(one, bytes);
+    let b = lent_by_value::write_data(f.lent, two, bytes);
+    report(b"data", a, b, one, two)
 }
 
 fn samples(f: Film, frames: &[i32], one: &mut [u8], two: &mut [u8]) -> Film {
-    let v = f.by_value;
-    let w = f.lent;
-    let a = v.write_pcm_24bit_as_packed(one, frames);
-    let b = kept::write_pcm_24bit_as_packed(w, two, frames);
-    report(b"samples", a, b, one, two);
-    both(a, b)
+    let a = f.by_value.write_pcm_24bit_as_packed(one, frames);
+    let b = lent_by_value::write_pcm_24bit_as_packed(f.lent, two, frames);
+    report(b"samples", a, b, one, two)
 }
 
 fn finish(f: Film, one: &mut [u8], two: &mut [u8]) -> Film {
-    let v = f.by_value;
-    let w = f.lent;
-    let a = v.finish(one);
-    let b = kept::finish(w, two);
-    report(b"finish", a, b, one, two);
-    both(a, b)
+    let a = f.by_value.finish(one);
+    let b = lent_by_value::finish(f.lent, two);
+    report(b"finish", a, b, one, two)
 }
 
 // Calls that are too early, and a tag that is not known: each is refused.

@@ -1,8 +1,8 @@
 // Cases of layouts: a list of labels, and the tag that the Rust gave it or how many channels it described.
-use crate::input::count;
-use crate::lists::MOST_LABELS;
-use crate::lists::labels_at;
 use byteorder::read::be_u32;
+use cases::list::MOST_LABELS;
+use cases::list::labels_at;
+use cases::number::count;
 use layout::ChannelLayout;
 use layout::search::layout_for;
 
@@ -23,7 +23,7 @@ pub(crate) fn same_labels(body: &[u8]) -> bool {
     if body.len() != end + 8 {
         return false;
     }
-    let labels = labels_at(body, 4, n);
+    let labels = labels_at(body, 4);
     let layout = layout_for(&labels[..n]);
     same_layout(layout, n, be_u32(body, end), count(body, end + 4))
 }

@@ -1,11 +1,11 @@
 // Cases of the plain reading: a file, and what the Rust found in it.
-use crate::input::byte;
-use crate::input::count;
 use answers::DONE;
 use byteorder::RateBits;
 use byteorder::float::rate_to_bits;
 use byteorder::read::be_u32;
 use byteorder::read::be_u64;
+use cases::number::byte;
+use cases::number::count;
 use format::AudioFormat;
 use format::Endianness;
 use format::MaybeFormat;

@@ -1,16 +1,16 @@
 // Cases of packing: samples, and the bytes that the Rust made of them.
-use crate::input::byte;
-use crate::input::count;
-use crate::input::order;
-use crate::input::starts_with;
-use crate::lists::MOST_SAMPLES;
-use crate::lists::samples_at;
 use answers::DONE;
+use cases::list::MOST_SAMPLES;
+use cases::list::samples_at;
+use cases::list::starts_with;
+use cases::number::byte;
+use cases::number::count;
+use cases::number::order;
 use format::Endianness;
 use pcm::packing::pack;
 
 fn same_packed(samples: &[i32], endianness: Endianness, wanted: &[u8]) -> bool {
-    let mut out = [0u8; 2048];
+    let mut out = [0u8; 3 * MOST_SAMPLES];
     if pack(samples, endianness, &mut out) != DONE {
         return false;
     }
@@ -27,6 +27,6 @@ pub(crate) fn same_samples(body: &[u8]) -> bool {
         return false;
     }
     let start = end + 4;
-    let samples = samples_at(body, 5, n);
+    let samples = samples_at(body, 5);
     same_packed(&samples[..n], order(byte(body, 0)), &body[start..])
 }

@@ -1,0 +1,4 @@
+mod Signed
+mod Listed
+mod Compared
+pub mod Onward
