@@ -11,11 +11,12 @@ use borrow.Author.Tests.{ne-eqb}
 use Rattle.answers.specs.Numbers.{done, badWriter, fileMax}
 use Rattle.byteorder.proofs.Laws.{splice-nil}
 use Rattle.format.specs.declared.MaybeFormat.the-variants.{Absent, Present}
-use Rattle.refusals.specs.Numbers.{isAbsent, dataNumberAs, samplesNumberAs}
+use Rattle.refusals.specs.Numbers.{isAbsent, dataNumberAs, samplesNumberAs, finishNumberAs}
 use Rattle.writer.specs.Record.{fresh, withData}
 use Rattle.refusals.specs.Sound.{rateSound}
 use Rattle.writer.specs.Sound.{formatSound, sound}
 use Rattle.writer.specs.Data.{dataNumber, samplesNumber}
+use Rattle.writer.specs.Finish.{finishNumber}
 use Rattle.writer.specs.Outcome.{Outcome, unchanged, unlessRefused, answer, bufferAfter}
 use Rattle.writer.specs.declared.CAFWriter.{CAFWriter}
 use Rattle.writer.proofs.Tests.{accepted, refused, two}
@@ -86,6 +87,17 @@ module _ (held : List ℕ) (room n : ℕ) where
       go true = refl
       go false = refl
 
+  abbrev seenFinish : Bool → ℕ
+  seenFinish s = finishNumberAs s (eqb (at held 81) 1) (eqb (at held 76) 1)
+
+  pub finish-seen : seenFinish (soundIn held room) ≡ numberOn held (λ w. finishNumber w room)
+  unfolding soundIn finishNumber recordOf
+  finish-seen = go (isRecord held)
+    where
+      go : (b : Bool) → seenFinish (b && sound (recordOf held) room) ≡ cond b (seenFinish (sound (recordOf held) room)) badWriter
+      go true = refl
+      go false = refl
+
 -- 0 is given for a record alone
 pub number-done : (held : List ℕ) (number : CAFWriter → ℕ) → numberOn held number ≡ done → (isRecord held ≡ true) × (number (recordOf held) ≡ done)
 number-done held number e = go (isRecord held) refl e
@@ -118,7 +130,7 @@ module _ (held buf : List ℕ) (number : CAFWriter → ℕ) (o : CAFWriter → O
       rw (on-record held call is, accepted (number w) w (o w) e) (record { number = sym d; kept = rw d k; stored = b })
 
 -- what an accepted call of n bytes has of its array
-rate-seen : (held : List ℕ) → formatSound (recordOf held) ≡ true → rateSound (maybeOf held) ≡ true
+pub rate-seen : (held : List ℕ) → formatSound (recordOf held) ≡ true → rateSound (maybeOf held) ≡ true
 unfolding formatSound recordOf
 rate-seen held f = two (rateSound (maybeOf held)) _ f .0
 

@@ -1,3 +1,4 @@
 pub mod Calls
 pub mod Changed
 mod Samples
+mod Finished

@@ -6,7 +6,9 @@ use mathlib.Core.List.{List, [], _∷_}
 use lib.ListN.{length}
 use lib.Dec.{eqb, ltb}
 use Rattle.answers.specs.Numbers.{done, badWriter}
+use Rattle.byteorder.specs.Splice.{splice}
 use Rattle.writer.specs.Record.{fresh}
+use Rattle.writer.specs.Finish.{finalSize}
 use Rattle.writer.specs.Outcome.{Outcome, unchanged, answer, bufferAfter, bufferCut, counted}
 use Rattle.writer.specs.declared.CAFWriter.{CAFWriter}
 use Rattle.writer.specs.declared.Wrote.{Wrote}
@@ -41,6 +43,10 @@ pub record Called (held buf : List ℕ) (o : Outcome) (r : ℕ) (heldAfter bufAf
 pub record Set (held : List ℕ) (o : Outcome) (r : ℕ) (heldAfter : List ℕ) : Type 0 where
   pub number : r ≡ o .number
   pub kept : heldAfter ≡ recordAfter held (answer o)
+
+-- a finish that is not refused stores the size of the data, unless it stands there already
+abbrev pub sizeStored : CAFWriter → List ℕ → List ℕ
+sizeStored w buf = cond (w .finished) buf (splice buf (w .«size_position») (finalSize w))
 
 -- 01, Stores and the cut: what a counted form gives beside its number
 abbrev pub countedPlaces : ℕ

@@ -3,35 +3,41 @@
 use crate::kept::keep;
 use answers::BAD_WRITER;
 use answers::DONE;
+use byteorder::bytes::u64_bytes;
 use byteorder::store::store;
 use numbers::lent_numbers::put;
 use numbers::words::number_at;
 use pcm::packing::pack_first;
 use pcm::sample::SAMPLE_SIZE;
+use reading::sizes::EDIT_COUNT;
 use record_numbers::places::DATA_COUNT;
+use record_numbers::places::DATA_START;
 use record_numbers::places::ENDIANNESS;
 use record_numbers::places::FILE_LEN;
 use record_numbers::places::FINISHED;
 use record_numbers::places::HAS_FORMAT;
 use record_numbers::places::HAS_HEADER;
+use record_numbers::places::SIZE_POSITION;
 use record_numbers::record_from_numbers::order_of;
 use record_numbers::record_from_numbers::record_in;
 use record_numbers::record_sound::sound_in;
 use record_numbers::record_tidy::tidy;
 use refusals::numbers::data_number;
+use refusals::numbers::finish_number;
 use refusals::numbers::samples_number;
 ghost use mathlib.Core.Path.{_≡_};
 ghost use mathlib.Core.Bool.{true};
 ghost use Prim.Native.Nat.{_+_, _<_, _^_};
 ghost use lib.ListN.{length};
+ghost use Rattle.answers.specs.Numbers.{done};
 ghost use Rattle.refusals.specs.Sound.{rateSound};
-ghost use Rattle.writer.specs.Record.{withData};
+ghost use Rattle.writer.specs.Record.{withData, asFinished};
 ghost use Rattle.writer.specs.Header.{headerCall};
 ghost use Rattle.writer.specs.Data.{dataNumber, dataCall, samplesNumber, samplesCall};
-ghost use Rattle.writer.specs.Finish.{finishCall};
+ghost use Rattle.writer.specs.Finish.{finishNumber, finishCall};
 ghost use Rattle.numbers.specs.Words.{at};
 ghost use Rattle.record_numbers.specs.RecordNumbers.{maybeOf, isRecord, recordOf, recordNumbers};
-ghost use Rattle.record_calls.specs.RecordCalls.{numberOn, callOn, Called};
+ghost use Rattle.record_calls.specs.RecordCalls.{numberOn, callOn, Called, sizeStored};
 
 pub fn write_header(held: &mut [u64], buf: &mut [u8]) -> u32
     ensures { λ r. ⌜ Called (now (held .entry)) (now (buf .entry)) (callOn (now (held .entry)) (λ w. headerCall w (length (now (buf .entry))))) r (now (held .exit)) (now (buf .exit)) ⌝ }
@@ -106,13 +112,47 @@ pub fn write_samples(held: &mut [u64], buf: &mut [u8], samples: &[i32]) -> u32
     number
 }
 
+// Finished, in the array.
+fn close(held: &mut [u64])
+    requires { ⌜ (isRecord (now held) ≡ true) × (rateSound (maybeOf (now held)) ≡ true) ⌝ }
+    ensures { λ _. ⌜ now (held .exit) ≡ recordNumbers (asFinished (recordOf (now (held .entry)))) ⌝ }
+{
+    let yes = [1u64];
+    tidy(held);
+    put(held, FINISHED, &yes);
+}
+
+fn finish_number_on(held: &[u64], room: usize) -> u32
+    ensures { λ r. ⌜ r ≡ numberOn (now (held .entry)) (λ w. finishNumber w room) ⌝ }
+{
+    let sound = sound_in(held, room);
+    let finished = number_at(held, FINISHED) == 1;
+    let has_header = number_at(held, HAS_HEADER) == 1;
+    finish_number(sound, finished, has_header)
+}
+
+// The size of the data goes into its field where it does not stand there yet.
+fn store_size(held: &[u64], buf: &mut [u8])
+    requires { ⌜ (isRecord (now held) ≡ true) × (finishNumber (recordOf (now held)) (length (now buf)) ≡ done) ⌝ }
+    ensures { λ _. ⌜ now (buf .exit) ≡ sizeStored (recordOf (now (held .entry))) (now (buf .entry)) ⌝ }
+{
+    if number_at(held, FINISHED) == 1 {
+        return;
+    }
+    let file_len = number_at(held, FILE_LEN);
+    let data_start = number_at(held, DATA_START);
+    let size = u64_bytes(file_len - data_start + EDIT_COUNT as u64);
+    store(buf, number_at(held, SIZE_POSITION) as usize, &size, 8);
+}
+
 pub fn finish(held: &mut [u64], buf: &mut [u8]) -> u32
     ensures { λ r. ⌜ Called (now (held .entry)) (now (buf .entry)) (callOn (now (held .entry)) (λ w. finishCall w (length (now (buf .entry))))) r (now (held .exit)) (now (buf .exit)) ⌝ }
 {
-    let kept = record_in(held);
-    if !kept.stands {
-        return BAD_WRITER;
+    let number = finish_number_on(held, buf.len());
+    if number != DONE {
+        return number;
     }
-    let wrote = kept.writer.finish(buf);
-    keep(held, wrote)
+    store_size(held, buf);
+    close(held);
+    number
 }

@@ -1,0 +1,106 @@
+-- The finish call on an array.
+use mathlib.Core.Path.{_≡_, refl, sym, _∙_, ap}
+use mathlib.Core.Bool.{Bool, true, false, cond}
+use mathlib.Core.List.{List, [], _∷_, _++_, append-assoc, append-nil}
+use Prim.Native.Nat.{ℕ, _+_, _≤_}
+use native.Mathlib.Omega.{arith}
+use lib.ListN.{length, take, drop, length-append}
+use lib.Seq.{take-at, drop-at}
+use Rattle.answers.specs.Numbers.{done, fileMax}
+use Rattle.byteorder.proofs.Laws.{splice-nil}
+use Rattle.writer.specs.Record.{asFinished}
+use Rattle.writer.specs.Outcome.{Outcome, unchanged, stores, bufferAfter}
+use Rattle.writer.specs.Finish.{finishNumber, finalSize, finishCall}
+use Rattle.writer.specs.declared.CAFWriter.{CAFWriter}
+use Rattle.writer.proofs.Allowed.{finish-sound, finish-header}
+use Rattle.writer.proofs.Facts.{sound-alone, in-room, headed}
+use Rattle.numbers.specs.FormatNumbers.{flagNumber, formatNumbers, orderNumber}
+use Rattle.numbers.specs.Lent.{putAt}
+use Rattle.numbers.proofs.FormatLaws.{length-format}
+use Rattle.numbers.proofs.Puts.{put-fits}
+use Rattle.record_numbers.specs.RecordNumbers.{layoutKind, layoutTag, isRecord, recordOf, recordNumbers}
+use Rattle.record_calls.specs.RecordCalls.{numberOn, callOn, Called, sizeStored}
+use Rattle.record_calls.proofs.Changed.{refused-called, changed-called}
+
+-- the last of the numbers
+module _ (front : List ℕ) (long : length front ≡ 76) (a b c d e f v : ℕ) where
+  last-put : {ns : List ℕ} → ns ≡ front ++ (a ∷ b ∷ c ∷ d ∷ e ∷ f ∷ []) → putAt ns 81 (v ∷ []) ≡ front ++ (a ∷ b ∷ c ∷ d ∷ e ∷ v ∷ [])
+  last-put {ns} is =
+      let p = front ++ (a ∷ b ∷ c ∷ d ∷ e ∷ []) in
+      let lp : length p ≡ 81 = simp length-append (omega arith) in
+      let lq : length (p ++ (f ∷ [])) ≡ 82 = simp length-append (omega arith) in
+      let split : ns ≡ p ++ (f ∷ []) = is ∙ sym (append-assoc front (a ∷ b ∷ c ∷ d ∷ e ∷ []) (f ∷ [])) in
+      let ln : length ns ≡ 82 = ap length split ∙ lq in
+      let head : take 81 ns ≡ p = ap (take 81) split ∙ take-at p (f ∷ []) 81 lp in
+      let tail : drop 82 ns ≡ [] = ap (drop 82) (split ∙ sym (append-nil (p ++ (f ∷ [])))) ∙ drop-at (p ++ (f ∷ [])) [] 82 lq in
+      put-fits ns 81 (v ∷ []) (omega arith) refl ∙ rw (head, tail, append-nil) (append-assoc front (a ∷ b ∷ c ∷ d ∷ e ∷ []) (v ∷ []))
+
+pub closed : (w : CAFWriter) → length (w .labels) ≡ 64 → putAt (recordNumbers w) 81 (1 ∷ []) ≡ recordNumbers (asFinished w)
+unfolding recordNumbers
+closed w l =
+    let front = formatNumbers (w .format) ++ (orderNumber (w .endianness) ∷ layoutKind (w .layout) ∷ layoutTag (w .layout) ∷ w .«label_count» ∷ []) ++ w .labels in
+    let lf = length-format (w .format) in
+    let long : length front ≡ 76 = simp length-append (omega arith) in
+    last-put front long _ _ _ _ _ _ 1 refl
+
+-- what a finish comes to, where it is not refused
+abbrev closing : Bool → CAFWriter → Outcome
+closing b w = cond b (unchanged done w) (stores (w .«size_position») (finalSize w) (asFinished w))
+
+closing-number : (b : Bool) (w : CAFWriter) → closing b w .number ≡ done
+closing-number true w = refl
+closing-number false w = refl
+
+-- marking a finished record as finished changes nothing
+marked : (w : CAFWriter) → w .finished ≡ true → asFinished w ≡ w
+marked w e =
+    ap
+    (λ (b : Bool).
+    record {
+      format = w .format;
+      endianness = w .endianness;
+      layout = w .layout;
+      labels = w .labels;
+      «label_count» = w .«label_count»;
+      «has_header» = w .«has_header»;
+      «size_position» = w .«size_position»;
+      «data_start» = w .«data_start»;
+      «file_len» = w .«file_len»;
+      «data_count» = w .«data_count»;
+      finished = b;
+    })
+    (sym e)
+
+closing-after : (b : Bool) (w : CAFWriter) → w .finished ≡ b → asFinished w ≡ closing b w .after
+closing-after true w e = marked w e
+closing-after false w e = refl
+
+closing-stored : (b : Bool) (w : CAFWriter) (buf : List ℕ) → cond b buf (bufferAfter (stores (w .«size_position») (finalSize w) (asFinished w)) buf) ≡ bufferAfter (closing b w) buf
+closing-stored true w buf = sym (splice-nil buf 0)
+closing-stored false w buf = refl
+
+-- where the size goes
+pub record Fits (w : CAFWriter) (room : ℕ) : Type 0 where
+  pub to : w .«data_start» ≤ w .«file_len»
+  pub in-file : w .«file_len» ≤ fileMax
+  pub in-buffer : w .«size_position» + 8 ≤ room
+
+pub size-fits : (w : CAFWriter) (room : ℕ) → finishNumber w room ≡ done → w .finished ≡ false → Fits w room
+size-fits w room e g =
+    let s = finish-sound w room e in
+    let a = sound-alone w room s in
+    let p = headed w (finish-header w room e g) (a .places) in
+    record { to = p .to; in-file = a .in-file; in-buffer = omega (arith, p .apart, p .to, in-room w room s) }
+
+module _ (held buf : List ℕ) where
+  pub finish-refused : {r : ℕ} → r ≡ numberOn held (λ w. finishNumber w (length buf)) → (r ≡ done → ⊥) → Called held buf (callOn held (λ w. finishCall w (length buf))) r held buf
+  unfolding finishCall
+  finish-refused e h = refused-called held buf (λ (w : CAFWriter). finishNumber w (length buf)) (λ (w : CAFWriter). closing (w .finished) w) e h
+
+  pub finish-changed : {after last : List ℕ} → isRecord held ≡ true → finishNumber (recordOf held) (length buf) ≡ done
+      → after ≡ recordNumbers (asFinished (recordOf held)) → last ≡ sizeStored (recordOf held) buf → Called held buf (callOn held (λ w. finishCall w (length buf))) done after last
+  unfolding finishCall
+  finish-changed is e k b =
+      let w = recordOf held in
+      changed-called held buf (λ (w : CAFWriter). finishNumber w (length buf)) (λ (w : CAFWriter). closing (w .finished) w) is e (closing-number (w .finished) w)
+      (k ∙ ap recordNumbers (closing-after (w .finished) w refl)) (b ∙ closing-stored (w .finished) w buf)

@@ -1,0 +1,29 @@
+use Rattle.record_calls.proofs.Changed.{finish-seen}
+use borrow.Author.Needs.{needs}
+use Rattle.record_calls.proofs.writing.finish_number_on.Statement.{statement}
+use Rattle.record_calls.proofs.writing.finish_number_on.Tie as tie
+
+sound-in-requires : tie.Need-sound-in-requires
+sound-in-requires c κs = search needs
+
+number-at-requires : tie.Need-number-at-requires
+number-at-requires c κs = search needs
+
+number-at-requires-2 : tie.Need-number-at-requires-2
+number-at-requires-2 c κs = search needs
+
+finish-number-requires : tie.Need-finish-number-requires
+finish-number-requires c κs = search needs
+
+returns : tie.Need-returns
+returns c =
+    rw (
+      ← finish-seen (c .before .before .before .before .before .args .held .now) (c .before .before .before .before .before .args .room) 0,
+      ← c .before .before .before .sound-in .ensures,
+      ← c .before .before .number-at .ensures,
+      ← c .before .number-at2 .ensures,
+    )
+    (c .finish-number .ensures)
+
+pub finish-number-on-spec : {M : Type 1} → statement M
+finish-number-on-spec = tie.close (tie.spec sound-in-requires number-at-requires number-at-requires-2 finish-number-requires returns)
