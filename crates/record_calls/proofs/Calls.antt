@@ -56,9 +56,6 @@ module _ (held : List ℕ) (call : CAFWriter → Outcome) where
     pub record-set : Set held (callOn held call) r after
     record-set = rw (on-record e) (record { number = n ∙ ap (λ (x : Wrote). x .number) p; kept = taken })
 
-    pub record-called : (buf : List ℕ) {bufAfter : List ℕ} → bufAfter ≡ bufferAfter (call (recordOf held)) buf → Called held buf (callOn held call) r after bufAfter
-    record-called buf b = rw (on-record e) (record { number = n ∙ ap (λ (x : Wrote). x .number) p; kept = taken; stored = b })
-
 take-none : (n : ℕ) → _≡_ {A = List ℕ} (take n []) []
 take-none zero = refl
 take-none (suc n) = refl

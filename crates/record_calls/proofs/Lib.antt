@@ -2,3 +2,4 @@ pub mod Calls
 pub mod Changed
 mod Samples
 mod Finished
+mod Headed

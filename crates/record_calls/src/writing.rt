@@ -1,6 +1,5 @@
-// The calls on a buffer. `held` is the array that keeps the record. A data call looks at the array's own numbers and changes two of them;
-// the record is not made for it.
-use crate::kept::keep;
+// The calls on a buffer. `held` is the array that keeps the record. A call looks at the array's own numbers and changes the places that it
+// has to; only for a header is the record made.
 use answers::BAD_WRITER;
 use answers::DONE;
 use byteorder::bytes::u64_bytes;
@@ -10,6 +9,7 @@ use numbers::words::number_at;
 use pcm::packing::pack_first;
 use pcm::sample::SAMPLE_SIZE;
 use reading::sizes::EDIT_COUNT;
+use reading::sizes::SIZE_TO_DATA;
 use record_numbers::places::DATA_COUNT;
 use record_numbers::places::DATA_START;
 use record_numbers::places::ENDIANNESS;
@@ -25,13 +25,14 @@ use record_numbers::record_tidy::tidy;
 use refusals::numbers::data_number;
 use refusals::numbers::finish_number;
 use refusals::numbers::samples_number;
+use writer::budget::ALL;
 ghost use mathlib.Core.Path.{_≡_};
 ghost use mathlib.Core.Bool.{true};
-ghost use Prim.Native.Nat.{_+_, _<_, _^_};
+ghost use Prim.Native.Nat.{_+_, _<_, _≤_, _^_};
 ghost use lib.ListN.{length};
 ghost use Rattle.answers.specs.Numbers.{done};
 ghost use Rattle.refusals.specs.Sound.{rateSound};
-ghost use Rattle.writer.specs.Record.{withData, asFinished};
+ghost use Rattle.writer.specs.Record.{withHeader, withData, asFinished};
 ghost use Rattle.writer.specs.Header.{headerCall};
 ghost use Rattle.writer.specs.Data.{dataNumber, dataCall, samplesNumber, samplesCall};
 ghost use Rattle.writer.specs.Finish.{finishNumber, finishCall};
@@ -39,6 +40,18 @@ ghost use Rattle.numbers.specs.Words.{at};
 ghost use Rattle.record_numbers.specs.RecordNumbers.{maybeOf, isRecord, recordOf, recordNumbers};
 ghost use Rattle.record_calls.specs.RecordCalls.{numberOn, callOn, Called, sizeStored};
 
+// With a header of n bytes, in the array.
+fn head(held: &mut [u64], n: usize)
+    requires { ⌜ (isRecord (now held) ≡ true) × (rateSound (maybeOf (now held)) ≡ true) × (12 ≤ n) ⌝ }
+    ensures { λ _. ⌜ now (held .exit) ≡ recordNumbers (withHeader (recordOf (now (held .entry))) n) ⌝ }
+{
+    let size_position = (n - SIZE_TO_DATA) as u64;
+    let places = [1, size_position, n as u64, n as u64];
+    tidy(held);
+    put(held, HAS_HEADER, &places);
+}
+
+// The record is made, since the header is made of it.
 pub fn write_header(held: &mut [u64], buf: &mut [u8]) -> u32
     ensures { λ r. ⌜ Called (now (held .entry)) (now (buf .entry)) (callOn (now (held .entry)) (λ w. headerCall w (length (now (buf .entry))))) r (now (held .exit)) (now (buf .exit)) ⌝ }
 {
@@ -46,8 +59,12 @@ pub fn write_header(held: &mut [u64], buf: &mut [u8]) -> u32
     if !kept.stands {
         return BAD_WRITER;
     }
-    let wrote = kept.writer.write_header(buf);
-    keep(held, wrote)
+    let done = kept.writer.write_header_counted(buf, ALL);
+    if done.number != DONE {
+        return done.number;
+    }
+    head(held, done.stores);
+    done.number
 }
 
 // n data bytes more, in the array.

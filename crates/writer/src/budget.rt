@@ -6,7 +6,7 @@ ghost use Prim.Native.Nat.{_+_, _<_, _^_, max};
 ghost use Rattle.writer.specs.declared.Counted.{Counted};
 
 // A budget that no call exceeds: the whole call is the counted one with it.
-pub(crate) const ALL: usize = 0xFFFF_FFFF_FFFF_FFFF;
+pub const ALL: usize = 0xFFFF_FFFF_FFFF_FFFF;
 
 // No stores, and the length of the file as it was.
 pub(crate) fn without_stores(number: u32, len: usize) -> Counted
