@@ -1,18 +1,16 @@
 -- A call that looks at the array's own numbers and changes some of them: what it promises of the record is so too.
 use mathlib.Core.Path.{_≡_, refl, sym, _∙_, ap}
 use mathlib.Core.Bool.{Bool, true, false, cond, _&&_}
-use mathlib.Core.List.{List, [], _∷_, _++_, append-assoc}
+use mathlib.Core.List.{List}
 use Prim.Native.Nat.{ℕ, _+_, _-_, _<_, _≤_, _^_}
 use native.Mathlib.Omega.{arith}
 use lib.Dec.{eqb}
-use lib.ListN.{length, take, drop, length-append, length-take, length-drop}
-use lib.Seq.{take-at, drop-at}
+use lib.ListN.{length, length-take, length-drop}
 use borrow.Author.Tests.{ne-eqb}
 use Rattle.answers.specs.Numbers.{done, badWriter, fileMax}
 use Rattle.byteorder.proofs.Laws.{splice-nil}
 use Rattle.format.specs.declared.MaybeFormat.the-variants.{Absent, Present}
 use Rattle.refusals.specs.Numbers.{isAbsent, dataNumberAs, samplesNumberAs, finishNumberAs}
-use Rattle.writer.specs.Record.{fresh, withData}
 use Rattle.refusals.specs.Sound.{rateSound}
 use Rattle.writer.specs.Sound.{formatSound, sound}
 use Rattle.writer.specs.Data.{dataNumber, samplesNumber}
@@ -22,39 +20,13 @@ use Rattle.writer.specs.declared.CAFWriter.{CAFWriter}
 use Rattle.writer.proofs.Tests.{accepted, refused, two}
 use Rattle.writer.proofs.Allowed.{data-allowed}
 use Rattle.writer.proofs.Facts.{sound-alone, headed}
-use Rattle.numbers.specs.FormatNumbers.{flagNumber, formatNumbers, orderNumber, audioOf}
-use Rattle.numbers.specs.Lent.{putAt}
+use Rattle.numbers.specs.FormatNumbers.{audioOf}
 use Rattle.numbers.specs.Words.{at}
-use Rattle.numbers.proofs.FormatLaws.{length-format}
-use Rattle.numbers.proofs.Puts.{put-fits}
-use Rattle.record_numbers.specs.RecordNumbers.{maybeOf, labelsIn, layoutKind, layoutTag, isRecord, recordOf, recordNumbers}
+use Rattle.record_numbers.specs.RecordNumbers.{maybeOf, labelsIn, isRecord, recordOf, recordNumbers}
 use Rattle.record_numbers.specs.RecordSound.{soundIn}
 use Rattle.record_numbers.proofs.Records.{is-record}
 use Rattle.record_calls.specs.RecordCalls.{numberOn, callOn, recordAfter, Called}
 use Rattle.record_calls.proofs.Calls.{none-called, on-record}
-
--- the file's length and the data count, among the last six numbers
-module _ (front : List ℕ) (long : length front ≡ 76) (a b c d e f v u : ℕ) where
-  two-put : {ns : List ℕ} → ns ≡ front ++ (a ∷ b ∷ c ∷ d ∷ e ∷ f ∷ []) → putAt ns 79 (v ∷ u ∷ []) ≡ front ++ (a ∷ b ∷ c ∷ v ∷ u ∷ f ∷ [])
-  two-put {ns} is =
-      let p = front ++ (a ∷ b ∷ c ∷ []) in
-      let q = front ++ (a ∷ b ∷ c ∷ d ∷ e ∷ []) in
-      let lp : length p ≡ 79 = simp length-append (omega arith) in
-      let lq : length q ≡ 81 = simp length-append (omega arith) in
-      let ln : length ns ≡ 82 = ap length is ∙ simp length-append (omega arith) in
-      let head : take 79 ns ≡ p = ap (take 79) (is ∙ sym (append-assoc front (a ∷ b ∷ c ∷ []) (d ∷ e ∷ f ∷ []))) ∙ take-at p (d ∷ e ∷ f ∷ []) 79 lp in
-      let tail : drop 81 ns ≡ f ∷ [] = ap (drop 81) (is ∙ sym (append-assoc front (a ∷ b ∷ c ∷ d ∷ e ∷ []) (f ∷ []))) ∙ drop-at q (f ∷ []) 81 lq in
-      put-fits ns 79 (v ∷ u ∷ []) (omega arith) refl
-      ∙ rw (head, tail)
-      (append-assoc p (v ∷ u ∷ []) (f ∷ []) ∙ append-assoc front (a ∷ b ∷ c ∷ []) (v ∷ u ∷ f ∷ []))
-
-pub grown : (w : CAFWriter) (n : ℕ) → length (w .labels) ≡ 64 → putAt (recordNumbers w) 79 ((w .«file_len» + n) ∷ (w .«data_count» + n) ∷ []) ≡ recordNumbers (withData w n)
-unfolding recordNumbers
-grown w n l =
-    let front = formatNumbers (w .format) ++ (orderNumber (w .endianness) ∷ layoutKind (w .layout) ∷ layoutTag (w .layout) ∷ w .«label_count» ∷ []) ++ w .labels in
-    let lf = length-format (w .format) in
-    let long : length front ≡ 76 = simp length-append (omega arith) in
-    two-put front long _ _ _ _ _ _ (w .«file_len» + n) (w .«data_count» + n) refl
 
 -- the numbers of data calls, from what is seen in the array
 module _ (held : List ℕ) (room n : ℕ) where

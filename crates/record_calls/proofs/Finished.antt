@@ -1,11 +1,10 @@
 -- The finish call on an array.
 use mathlib.Core.Path.{_≡_, refl, sym, _∙_, ap}
 use mathlib.Core.Bool.{Bool, true, false, cond}
-use mathlib.Core.List.{List, [], _∷_, _++_, append-assoc, append-nil}
+use mathlib.Core.List.{List}
 use Prim.Native.Nat.{ℕ, _+_, _≤_}
 use native.Mathlib.Omega.{arith}
-use lib.ListN.{length, take, drop, length-append}
-use lib.Seq.{take-at, drop-at}
+use lib.ListN.{length}
 use Rattle.answers.specs.Numbers.{done, fileMax}
 use Rattle.byteorder.proofs.Laws.{splice-nil}
 use Rattle.writer.specs.Record.{asFinished}
@@ -14,34 +13,10 @@ use Rattle.writer.specs.Finish.{finishNumber, finalSize, finishCall}
 use Rattle.writer.specs.declared.CAFWriter.{CAFWriter}
 use Rattle.writer.proofs.Allowed.{finish-sound, finish-header}
 use Rattle.writer.proofs.Facts.{sound-alone, in-room, headed}
-use Rattle.numbers.specs.FormatNumbers.{flagNumber, formatNumbers, orderNumber}
-use Rattle.numbers.specs.Lent.{putAt}
-use Rattle.numbers.proofs.FormatLaws.{length-format}
-use Rattle.numbers.proofs.Puts.{put-fits}
-use Rattle.record_numbers.specs.RecordNumbers.{layoutKind, layoutTag, isRecord, recordOf, recordNumbers}
+use Rattle.writer.proofs.Whole.{finished-is}
+use Rattle.record_numbers.specs.RecordNumbers.{isRecord, recordOf, recordNumbers}
 use Rattle.record_calls.specs.RecordCalls.{numberOn, callOn, Called, sizeStored}
 use Rattle.record_calls.proofs.Changed.{refused-called, changed-called}
-
--- the last of the numbers
-module _ (front : List ℕ) (long : length front ≡ 76) (a b c d e f v : ℕ) where
-  last-put : {ns : List ℕ} → ns ≡ front ++ (a ∷ b ∷ c ∷ d ∷ e ∷ f ∷ []) → putAt ns 81 (v ∷ []) ≡ front ++ (a ∷ b ∷ c ∷ d ∷ e ∷ v ∷ [])
-  last-put {ns} is =
-      let p = front ++ (a ∷ b ∷ c ∷ d ∷ e ∷ []) in
-      let lp : length p ≡ 81 = simp length-append (omega arith) in
-      let lq : length (p ++ (f ∷ [])) ≡ 82 = simp length-append (omega arith) in
-      let split : ns ≡ p ++ (f ∷ []) = is ∙ sym (append-assoc front (a ∷ b ∷ c ∷ d ∷ e ∷ []) (f ∷ [])) in
-      let ln : length ns ≡ 82 = ap length split ∙ lq in
-      let head : take 81 ns ≡ p = ap (take 81) split ∙ take-at p (f ∷ []) 81 lp in
-      let tail : drop 82 ns ≡ [] = ap (drop 82) (split ∙ sym (append-nil (p ++ (f ∷ [])))) ∙ drop-at (p ++ (f ∷ [])) [] 82 lq in
-      put-fits ns 81 (v ∷ []) (omega arith) refl ∙ rw (head, tail, append-nil) (append-assoc front (a ∷ b ∷ c ∷ d ∷ e ∷ []) (v ∷ []))
-
-pub closed : (w : CAFWriter) → length (w .labels) ≡ 64 → putAt (recordNumbers w) 81 (1 ∷ []) ≡ recordNumbers (asFinished w)
-unfolding recordNumbers
-closed w l =
-    let front = formatNumbers (w .format) ++ (orderNumber (w .endianness) ∷ layoutKind (w .layout) ∷ layoutTag (w .layout) ∷ w .«label_count» ∷ []) ++ w .labels in
-    let lf = length-format (w .format) in
-    let long : length front ≡ 76 = simp length-append (omega arith) in
-    last-put front long _ _ _ _ _ _ 1 refl
 
 -- what a finish comes to, where it is not refused
 abbrev closing : Bool → CAFWriter → Outcome
@@ -52,27 +27,8 @@ closing-number true w = refl
 closing-number false w = refl
 
 -- marking a finished record as finished changes nothing
-marked : (w : CAFWriter) → w .finished ≡ true → asFinished w ≡ w
-marked w e =
-    ap
-    (λ (b : Bool).
-    record {
-      format = w .format;
-      endianness = w .endianness;
-      layout = w .layout;
-      labels = w .labels;
-      «label_count» = w .«label_count»;
-      «has_header» = w .«has_header»;
-      «size_position» = w .«size_position»;
-      «data_start» = w .«data_start»;
-      «file_len» = w .«file_len»;
-      «data_count» = w .«data_count»;
-      finished = b;
-    })
-    (sym e)
-
 closing-after : (b : Bool) (w : CAFWriter) → w .finished ≡ b → asFinished w ≡ closing b w .after
-closing-after true w e = marked w e
+closing-after true w e = finished-is w e
 closing-after false w e = refl
 
 closing-stored : (b : Bool) (w : CAFWriter) (buf : List ℕ) → cond b buf (bufferAfter (stores (w .«size_position») (finalSize w) (asFinished w)) buf) ≡ bufferAfter (closing b w) buf

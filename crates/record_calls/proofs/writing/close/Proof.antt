@@ -1,5 +1,5 @@
 use Rattle.record_calls.proofs.Changed.{labels-long}
-use Rattle.record_calls.proofs.Finished.{closed}
+use Rattle.record_calls.proofs.Places.{closed}
 use Rattle.record_numbers.specs.RecordNumbers.{recordOf}
 use Rattle.record_numbers.proofs.Tidied.{tidied-is}
 use mathlib.Core.Path.{_∙_}

@@ -1,4 +1,5 @@
-use Rattle.record_calls.proofs.Changed.{grown, labels-long}
+use Rattle.record_calls.proofs.Changed.{labels-long}
+use Rattle.record_calls.proofs.Places.{grown}
 use Rattle.record_numbers.specs.RecordNumbers.{recordOf}
 use Rattle.record_numbers.proofs.Tidied.{tidied-is}
 use mathlib.Core.Path.{_∙_}
@@ -37,7 +38,7 @@ returns c =
     let p = c .before .before .before .before .before .before .before .before .before .before .before .before .before .before .pre in
     let wide = c .before .before .before .before .before .before .before .before .before .before .before .before .before .slice-known .given 1 .fits in
     let tidy = c .before .before .before .before .before .before .before .tidy .ensures ∙ tidied-is ns (p .0) wide (p .1) in
-    c .before .before .put .ensures ∙ rw (tidy, c .before .before .before .before .before .before .before .before .before .before .before .number-at .ensures, c .before .before .before .before .before .before .before .before .before .number-at2 .ensures) (grown (recordOf ns) _ (labels-long ns (p .0)))
+    c .before .before .put .ensures ∙ rw (tidy, c .before .before .before .before .before .before .before .before .before .before .before .number-at .ensures, c .before .before .before .before .before .before .before .before .before .number-at2 .ensures) (grown (recordOf ns) (labels-long ns (p .0)) _)
 
 pub grow-spec : {M : Type 1} → statement M
 grow-spec = tie.close (tie.spec number-at-requires add-len number-at-requires-2 add-count tidy-requires slice-aggregate-put put-requires same-length returns)
