@@ -1,8 +1,5 @@
 // The films: a layout, and sessions, each told by its last call and by how many of its stores are done.
 
-// No layout, a tag, descriptions.
-pub(crate) const LAYOUTS: u32 = 3;
-
 // The last calls, with what stands before them:
 //   0 the header, or the resume of a later session
 //   1 one byte                         2 two samples, after five bytes
@@ -18,7 +15,7 @@ pub(crate) const ROOM: usize = 640;
 
 pub(crate) const AUDIO: usize = 251;
 
-// Of the sessions the first `count` are made.
+// The layout is 0 for none, 1 for a tag, 2 for descriptions. Of the sessions the first `count` are made.
 pub(crate) struct Film {
     pub layout: u32,
     pub count: usize,

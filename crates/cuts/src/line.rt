@@ -4,10 +4,10 @@ use crate::film::ROOM;
 use crate::film::SESSIONS;
 use crate::session::make;
 use answers::DONE;
-use reading::PlainAnswer;
 use reading::StrictAnswer;
 use reading::plain::parse_caf_file;
 use reading::strict::read_strict;
+use refusals::of_reading::plain_number;
 use show::decimal;
 use show::newline;
 use show::word;
@@ -35,27 +35,15 @@ fn show_film(film: Film) {
     }
 }
 
-fn fold(digest: u64, byte: u8) -> u64 {
-    digest % 0x1_0000_0000 * 1_000_003 + byte as u64
-}
-
 // Every byte counts, and its place.
 fn digest(file: &[u8]) -> u64 {
     let mut d: u64 = 0;
     let mut i: usize = 0;
     while i < file.len() {
-        d = fold(d, file[i]);
+        d = d % 0x1_0000_0000 * 1_000_003 + file[i] as u64;
         i += 1;
     }
     d % 0x1_0000_0000
-}
-
-fn plain_number(file: &[u8]) -> u32 {
-    let read = parse_caf_file(file);
-    match read {
-        PlainAnswer::Found(_, _) => DONE,
-        PlainAnswer::NotRead(number, _) => number,
-    }
 }
 
 fn show_answer(answer: StrictAnswer) {
@@ -83,7 +71,7 @@ fn show_digest(buf: &[u8], n: usize) {
 fn show_plain(buf: &[u8], n: usize) {
     word(b" |");
     if n <= buf.len() {
-        number(plain_number(&buf[..n]) as u64);
+        number(plain_number(parse_caf_file(&buf[..n])) as u64);
     }
 }
 

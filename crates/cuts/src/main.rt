@@ -16,7 +16,6 @@ mod session;
 
 use film::Film;
 use film::LAST_CALLS;
-use film::LAYOUTS;
 use film::ROOM;
 use film::started;
 use film::then;
@@ -54,14 +53,11 @@ fn two_more(film: Film, last: u32) {
     }
 }
 
-fn one_session() {
-    for layout in 0..LAYOUTS {
-        one_more(started(layout));
-    }
-}
-
 fn main() {
-    one_session();
+    // one session: no layout, a tag, descriptions
+    one_more(started(0));
+    one_more(started(1));
+    one_more(started(2));
     // two sessions: after a header that is cut, at its first and at its last store; after data that are cut; after a finish that is cut
     let film = started(0);
     one_more(then(film, 0, 1));

@@ -1,6 +1,7 @@
 use borrow.Author.Needs.{needs}
 use Prim.Native.Nat.{_≤_, _-_}
 use lib.ListN.{length}
+use native.Mathlib.Omega.{arith}
 use Rattle.cuts.proofs.line.digest.Statement.{statement}
 use Rattle.cuts.proofs.line.digest.Tie as tie
 
@@ -13,11 +14,17 @@ abbrev μ-loop : tie.MeasureT-loop
 loop-holds : tie.Need-loop-holds Inv-loop μ-loop
 loop-holds c = search needs
 
-shared-slice-read-fold : tie.Need-shared-slice-read-fold Inv-loop μ-loop
-shared-slice-read-fold c = search needs
+mul-d : tie.Need-mul-d Inv-loop μ-loop
+mul-d c = search needs
 
-fold-requires : tie.Need-fold-requires Inv-loop μ-loop
-fold-requires c κs = search needs
+shared-slice-read-d : tie.Need-shared-slice-read-d Inv-loop μ-loop
+shared-slice-read-d c = search needs
+
+cast-d : tie.Need-cast-d Inv-loop μ-loop
+cast-d c = omega (arith, c .shared-slice-known .given (c .before .before .loop .i))
+
+add-d : tie.Need-add-d Inv-loop μ-loop
+add-d c = record { fits = omega (arith, c .shared-slice-known .given (c .before .before .loop .i) .fits) }
 
 add-i : tie.Need-add-i Inv-loop μ-loop
 add-i c = search needs
@@ -38,8 +45,10 @@ digest-spec =
     Inv-loop
     μ-loop
     loop-holds
-    shared-slice-read-fold
-    fold-requires
+    mul-d
+    shared-slice-read-d
+    cast-d
+    add-d
     add-i
     loop-less
     loop-again

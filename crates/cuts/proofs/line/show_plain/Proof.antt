@@ -11,8 +11,11 @@ slice-aggregate-word c = search needs
 word-requires : tie.Need-word-requires
 word-requires c κs = search needs
 
-slice-aggregate-plain-number : tie.Need-slice-aggregate-plain-number
-slice-aggregate-plain-number c = sym (length-take-le (c .before .before .before .before .before .args .n) (c .before .before .before .before .before .args .buf .now) (omega arith))
+slice-aggregate-parse-caf-file : tie.Need-slice-aggregate-parse-caf-file
+slice-aggregate-parse-caf-file c = sym (length-take-le (c .before .before .before .before .before .args .n) (c .before .before .before .before .before .args .buf .now) (omega arith))
+
+parse-caf-file-requires : tie.Need-parse-caf-file-requires
+parse-caf-file-requires c κs = search needs
 
 plain-number-requires : tie.Need-plain-number-requires
 plain-number-requires c κs = search needs
@@ -35,7 +38,8 @@ show-plain-spec =
     (tie.spec
     slice-aggregate-word
     word-requires
-    slice-aggregate-plain-number
+    slice-aggregate-parse-caf-file
+    parse-caf-file-requires
     plain-number-requires
     cast-number
     number-requires
