@@ -28,21 +28,15 @@ use Rattle.record_numbers.proofs.Records.{is-record}
 use Rattle.record_calls.specs.RecordCalls.{numberOn, callOn, recordAfter, Called}
 use Rattle.record_calls.proofs.Calls.{none-called, on-record}
 
--- the numbers of data calls, from what is seen in the array
+-- a number that refuses what is not sound, from soundness as it is seen in the array
+on-sound : (number : Bool → ℕ) (b s : Bool) → number false ≡ badWriter → number (b && s) ≡ cond b (number s) badWriter
+on-sound number true s e = refl
+on-sound number false s e = e
+
 module _ (held : List ℕ) (room n : ℕ) where
-  abbrev seen : Bool → ℕ
-  seen s = dataNumberAs s (eqb (at held 81) 1) (eqb (at held 76) 1) (at held 79) room n
-
-  pub data-seen : seen (soundIn held room) ≡ numberOn held (λ w. dataNumber w room n)
+  pub data-seen : dataNumberAs (soundIn held room) (eqb (at held 81) 1) (eqb (at held 76) 1) (at held 79) room n ≡ numberOn held (λ w. dataNumber w room n)
   unfolding soundIn dataNumber recordOf
-  data-seen = go (isRecord held)
-    where
-      go : (b : Bool) → seen (b && sound (recordOf held) room) ≡ cond b (seen (sound (recordOf held) room)) badWriter
-      go true = refl
-      go false = refl
-
-  abbrev seenSamples : Bool → Bool → ℕ
-  seenSamples s absent = samplesNumberAs s (eqb (at held 81) 1) (eqb (at held 76) 1) absent (at held 79) room n
+  data-seen = on-sound (λ s. dataNumberAs s (eqb (at held 81) 1) (eqb (at held 76) 1) (at held 79) room n) (isRecord held) (sound (recordOf held) room) refl
 
   absent-seen : eqb (at held 0) 0 ≡ isAbsent (maybeOf held)
   absent-seen = go (eqb (at held 0) 0)
@@ -51,24 +45,18 @@ module _ (held : List ℕ) (room n : ℕ) where
       go true = refl
       go false = refl
 
-  pub samples-seen : seenSamples (soundIn held room) (eqb (at held 0) 0) ≡ numberOn held (λ w. samplesNumber w room n)
+  abbrev samplesSeen : Bool → Bool → ℕ
+  samplesSeen absent s = samplesNumberAs s (eqb (at held 81) 1) (eqb (at held 76) 1) absent (at held 79) room n
+
+  pub samples-seen : samplesSeen (eqb (at held 0) 0) (soundIn held room) ≡ numberOn held (λ w. samplesNumber w room n)
   unfolding soundIn samplesNumber recordOf
-  samples-seen = ap (seenSamples (soundIn held room)) absent-seen ∙ go (isRecord held)
-    where
-      go : (b : Bool) → seenSamples (b && sound (recordOf held) room) (isAbsent (maybeOf held)) ≡ cond b (seenSamples (sound (recordOf held) room) (isAbsent (maybeOf held))) badWriter
-      go true = refl
-      go false = refl
+  samples-seen =
+      ap (λ (absent : Bool). samplesSeen absent (soundIn held room)) absent-seen
+      ∙ on-sound (samplesSeen (isAbsent (maybeOf held))) (isRecord held) (sound (recordOf held) room) refl
 
-  abbrev seenFinish : Bool → ℕ
-  seenFinish s = finishNumberAs s (eqb (at held 81) 1) (eqb (at held 76) 1)
-
-  pub finish-seen : seenFinish (soundIn held room) ≡ numberOn held (λ w. finishNumber w room)
-  unfolding soundIn finishNumber recordOf
-  finish-seen = go (isRecord held)
-    where
-      go : (b : Bool) → seenFinish (b && sound (recordOf held) room) ≡ cond b (seenFinish (sound (recordOf held) room)) badWriter
-      go true = refl
-      go false = refl
+pub finish-seen : (held : List ℕ) (room : ℕ) → finishNumberAs (soundIn held room) (eqb (at held 81) 1) (eqb (at held 76) 1) ≡ numberOn held (λ w. finishNumber w room)
+unfolding soundIn finishNumber recordOf
+finish-seen held room = on-sound (λ s. finishNumberAs s (eqb (at held 81) 1) (eqb (at held 76) 1)) (isRecord held) (sound (recordOf held) room) refl
 
 -- 0 is given for a record alone
 pub number-done : (held : List ℕ) (number : CAFWriter → ℕ) → numberOn held number ≡ done → (isRecord held ≡ true) × (number (recordOf held) ≡ done)

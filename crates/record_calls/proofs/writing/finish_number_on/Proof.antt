@@ -18,7 +18,7 @@ finish-number-requires c κs = search needs
 returns : tie.Need-returns
 returns c =
     rw (
-      ← finish-seen (c .before .before .before .before .before .args .held .now) (c .before .before .before .before .before .args .room) 0,
+      ← finish-seen (c .before .before .before .before .before .args .held .now) (c .before .before .before .before .before .args .room),
       ← c .before .before .before .sound-in .ensures,
       ← c .before .before .number-at .ensures,
       ← c .before .number-at2 .ensures,
