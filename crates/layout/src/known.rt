@@ -1,67 +1,101 @@
-// Which numbers are labels and which are tags.
+// Which numbers are labels and which are tags. A data call asks it of the tag of its record, or of each of its labels. So no list is
+// gone through: labels have a bit each, and the tags stand in a `match`, of which a compiler makes a few comparisons.
 use crate::label;
-use crate::tag::TAGS;
+use crate::tag;
 ghost use mathlib.Core.Path.{_≡_};
-ghost use mathlib.Core.Bool.{_&&_};
-ghost use lib.Dec.{leb};
-ghost use Rattle.layout.specs.Known.{among, knownLabel, knownTag, allKnown};
+ghost use Prim.Native.Nat.{_/_, _%_, _^_};
+ghost use lib.Dec.{eqb};
+ghost use Rattle.layout.specs.Known.{knownLabel, knownTag, allKnown};
 
-pub(crate) fn is_among(n: u32, table: &[u32]) -> bool
-    ensures { λ r. ⌜ r ≡ among n (now (table .entry)) ⌝ }
+// The labels from 0 to 63, a bit for each: 0 to 18, 33 to 44, 49 and 51.
+const LOW_LABELS: u64 = 0xA_1FFE_0007_FFFF;
+
+// From 256 to 319: 301, 302, 304 and 305.
+const HIGH_LABELS: u64 = 0x3_6000_0000_0000;
+
+// The bit of n in a word for its 64 numbers.
+fn has_bit(word: u64, n: u32) -> bool
+    ensures { λ r. ⌜ r ≡ eqb (word / 2 ^ (n % 64) % 2) 1 ⌝ }
 {
-    let mut i: usize = 0;
-    while i < table.len() {
-        if n == table[i] {
-            return true;
-        }
-        i += 1;
-    }
-    false
+    (word >> (n % 64)) % 2 == 1
 }
 
-fn is_within(n: u32, first: u32, last: u32) -> bool
-    ensures { λ r. ⌜ r ≡ leb first n && leb n last ⌝ }
-{
-    if n < first {
-        return false;
-    }
-    n <= last
-}
-
-// The labels whose numbers stand in no run of others.
-const ALONE: [u32; 8] = [
-    label::UNKNOWN,
-    label::USE_COORDINATES,
-    label::LEFT_TOP_MIDDLE,
-    label::RIGHT_TOP_MIDDLE,
-    label::HEADPHONES_LEFT,
-    label::HEADPHONES_RIGHT,
-    label::CLICK_TRACK,
-    label::FOREIGN_LANGUAGE,
-];
-
-// A data call asks this of each label that its record describes: so it goes by the runs, and not by a list of 47.
 pub fn known_label(n: u32) -> bool
     ensures { λ r. ⌜ r ≡ knownLabel n ⌝ }
 {
-    if is_within(n, label::UNUSED, label::TOP_BACK_RIGHT) {
+    if n < 64 {
+        return has_bit(LOW_LABELS, n);
+    }
+    // 200 to 207
+    if n / 8 == label::AMBISONIC_W / 8 {
         return true;
     }
-    if is_within(n, label::REAR_SURROUND_LEFT, label::CENTER_SURROUND_DIRECT) {
-        return true;
+    if n / 64 == label::HEADPHONES_LEFT / 64 {
+        return has_bit(HIGH_LABELS, n);
     }
-    if is_within(n, label::AMBISONIC_W, label::XYY) {
-        return true;
+    match n {
+        label::UNKNOWN | label::USE_COORDINATES => true,
+        _ => false,
     }
-    let table = ALONE;
-    is_among(n, &table)
 }
 
+// All of them, in the Rust's order.
 pub fn known_tag(n: u32) -> bool
     ensures { λ r. ⌜ r ≡ knownTag n ⌝ }
 {
-    let table = TAGS;
-    is_among(n, &table)
+    match n {
+        tag::USE_CHANNEL_DESCRIPTIONS
+        | tag::USE_CHANNEL_BITMAP
+        | tag::MONO
+        | tag::STEREO
+        | tag::STEREO_HEADPHONES
+        | tag::MATRIX_STEREO
+        | tag::MID_SIDE
+        | tag::XY
+        | tag::BINAURAL
+        | tag::AMBISONIC_B_FORMAT
+        | tag::QUADRAPHONIC
+        | tag::PENTAGONAL
+        | tag::HEXAGONAL
+        | tag::OCTAGONAL
+        | tag::CUBE
+        | tag::MPEG_3_0_A
+        | tag::MPEG_3_0_B
+        | tag::MPEG_4_0_A
+        | tag::MPEG_4_0_B
+        | tag::MPEG_5_0_A
+        | tag::MPEG_5_0_B
+        | tag::MPEG_5_0_C
+        | tag::MPEG_5_0_D
+        | tag::MPEG_5_1_A
+        | tag::MPEG_5_1_B
+        | tag::MPEG_5_1_C
+        | tag::MPEG_5_1_D
+        | tag::MPEG_6_1_A
+        | tag::MPEG_7_1_A
+        | tag::MPEG_7_1_B
+        | tag::MPEG_7_1_C
+        | tag::EMAGIC_DEFAULT_7_1
+        | tag::SMPTE_DTV
+        | tag::ITU_2_1
+        | tag::ITU_2_2
+        | tag::DVD_4
+        | tag::DVD_5
+        | tag::DVD_6
+        | tag::DVD_10
+        | tag::DVD_11
+        | tag::DVD_18
+        | tag::DVD_20
+        | tag::DVD_21
+        | tag::AAC_6_0
+        | tag::AAC_6_1
+        | tag::AAC_7_0
+        | tag::AAC_OCTAGONAL
+        | tag::TMH_10_2_STD
+        | tag::TMH_10_2_FULL
+        | tag::RESERVED_DO_NOT_USE => true,
+        _ => false,
+    }
 }
 
 pub fn all_known(labels: &[u32]) -> bool

@@ -58,13 +58,11 @@ fn layout_fits(numbers: &[u64]) -> bool
     kind <= DESCRIBED
 }
 
-// Whether the array stands for a record.
-pub(crate) fn is_record(numbers: &[u64]) -> bool
+// Whether an array of a record's places stands for one.
+pub(crate) fn places_fit(numbers: &[u64]) -> bool
+    requires { ⌜ length (now numbers) ≡ recordPlaces ⌝ }
     ensures { λ r. ⌜ r ≡ isRecord (now (numbers .entry)) ⌝ }
 {
-    if numbers.len() != RECORD {
-        return false;
-    }
     if !format_fits(numbers) {
         return false;
     }
@@ -81,6 +79,16 @@ pub(crate) fn is_record(numbers: &[u64]) -> bool
         return false;
     }
     numbers[FINISHED] < 2
+}
+
+// Whether the array stands for a record.
+fn is_record(numbers: &[u64]) -> bool
+    ensures { λ r. ⌜ r ≡ isRecord (now (numbers .entry)) ⌝ }
+{
+    if numbers.len() != RECORD {
+        return false;
+    }
+    places_fit(numbers)
 }
 
 pub(crate) fn format_of(numbers: &[u64]) -> MaybeFormat

@@ -7,18 +7,19 @@ use crate::places::FINISHED;
 use crate::places::HAS_HEADER;
 use crate::places::LABEL_COUNT;
 use crate::places::LABELS;
+use crate::places::RECORD;
 use crate::places::SIZE_POSITION;
 use crate::record_from_numbers::format_of;
-use crate::record_from_numbers::is_record;
 use crate::record_from_numbers::layout_of;
 use crate::record_from_numbers::order_of;
+use crate::record_from_numbers::places_fit;
 use answers::FILE_MAX;
 use layout::ChannelLayout;
 use layout::known::known_label;
 use layout::known::known_tag;
 use layout::setting::LABEL_PLACES;
+use numbers::words::WORDS;
 use numbers::words::number_at;
-use numbers::words::word_at;
 use refusals::of_format::format_sound;
 use refusals::places::places_sound;
 ghost use mathlib.Core.Path.{_≡_};
@@ -37,7 +38,7 @@ fn labels_known(numbers: &[u64], count: usize) -> bool
 {
     let mut i: usize = 0;
     while i < count {
-        if !known_label(word_at(numbers, LABELS + i)) {
+        if !known_label((numbers[LABELS + i] % WORDS) as u32) {
             return false;
         }
         i += 1;
@@ -68,11 +69,15 @@ fn layout_sound(numbers: &[u64]) -> bool
     }
 }
 
-// Over a buffer of `room` bytes. An array that stands for no record is not sound.
+// Over a buffer of `room` bytes. An array that stands for no record is not sound. Its length is tested here, so that a compiler knows it
+// at every place that is looked at.
 pub fn sound_in(numbers: &[u64], room: usize) -> bool
     ensures { λ r. ⌜ r ≡ soundIn (now (numbers .entry)) room ⌝ }
 {
-    if !is_record(numbers) {
+    if numbers.len() != RECORD {
+        return false;
+    }
+    if !places_fit(numbers) {
         return false;
     }
     let file_len = number_at(numbers, FILE_LEN) as usize;

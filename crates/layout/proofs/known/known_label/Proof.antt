@@ -1,71 +1,52 @@
-use mathlib.Core.Path.{_≡_, sym, _∙_}
+use Prim.Native.Nat.{_/_}
+use mathlib.Core.Path.{_≡_, refl, sym, _∙_}
 use mathlib.Core.Bool.{true, false}
+use native.Mathlib.Omega.{arith}
 use borrow.Author.Needs.{needs}
-use Rattle.layout.specs.Labels as label
-use Rattle.layout.proofs.Runs.{within, inRuns, in-runs}
+use borrow.Author.Tests.{lt-ltb, le-ltb, eq-eqb, ne-eqb}
+use Rattle.layout.proofs.Listed.{one-of, none-of}
+use Rattle.layout.proofs.ByTests.{apart, byTests, by-tests}
 use Rattle.layout.proofs.known.known_label.Statement.{statement}
 use Rattle.layout.proofs.known.known_label.Tie as tie
 
-is-within-requires : tie.Need-is-within-requires
-is-within-requires c κs = search needs
+has-bit-requires : tie.Need-has-bit-requires
+has-bit-requires c κs = search needs
 
 returns : tie.Need-returns
 returns c =
     let n = c .before .before .args .n in
-    let first : within label.Unused label.TopBackRight n ≡ true = sym (c .before .is-within .ensures) ∙ c .if1 .taken in
-    let is : inRuns n ≡ true = rw first in sym is ∙ in-runs n
-
-is-within-requires-2 : tie.Need-is-within-requires-2
-is-within-requires-2 c κs = search needs
+    let is : byTests n ≡ c .has-bit .result = rw (lt-ltb n 64 (omega arith)) (sym (c .has-bit .ensures)) in sym is ∙ by-tests n
 
 returns-2 : tie.Need-returns-2
 returns-2 c =
-    let one = c .before .before in
-    let n = one .before .before .args .n in
-    let first : within label.Unused label.TopBackRight n ≡ false = sym (one .before .is-within .ensures) ∙ one .if1 .left in
-    let second : within label.RearSurroundLeft label.CenterSurroundDirect n ≡ true = sym (c .before .is-within2 .ensures) ∙ c .if2 .taken in
-    let is : inRuns n ≡ true = rw (first, second) in sym is ∙ in-runs n
+    let n = c .before .before .args .n in
+    let is : byTests n ≡ true = rw (le-ltb n 64 (omega arith), eq-eqb (n / 8) 25 (c .if2 .taken)) in sym is ∙ by-tests n
 
-is-within-requires-3 : tie.Need-is-within-requires-3
-is-within-requires-3 c κs = search needs
+has-bit-requires-2 : tie.Need-has-bit-requires-2
+has-bit-requires-2 c κs = search needs
 
 returns-3 : tie.Need-returns-3
 returns-3 c =
     let two = c .before .before in
-    let one = two .before .before in
-    let n = one .before .before .args .n in
-    let first : within label.Unused label.TopBackRight n ≡ false = sym (one .before .is-within .ensures) ∙ one .if1 .left in
-    let second : within label.RearSurroundLeft label.CenterSurroundDirect n ≡ false = sym (two .before .is-within2 .ensures) ∙ two .if2 .left in
-    let third : within label.AmbisonicW label.XYY n ≡ true = sym (c .before .is-within3 .ensures) ∙ c .if3 .taken in
-    let is : inRuns n ≡ true = rw (first, second, third) in sym is ∙ in-runs n
-
-slice-aggregate-is-among : tie.Need-slice-aggregate-is-among
-slice-aggregate-is-among c = search needs
-
-is-among-requires : tie.Need-is-among-requires
-is-among-requires c κs = search needs
+    let n = two .before .before .args .n in
+    let is : byTests n ≡ c .has-bit2 .result =
+    rw (le-ltb n 64 (omega arith), ne-eqb (n / 8) 25 (two .if2 .left), eq-eqb (n / 64) 4 (c .before .if3 .taken)) (sym (c .has-bit2 .ensures)) in sym is ∙ by-tests n
 
 returns-4 : tie.Need-returns-4
 returns-4 c =
-    let three = c .before .before in
-    let two = three .before .before in
-    let one = two .before .before in
-    let n = one .before .before .args .n in
-    let first : within label.Unused label.TopBackRight n ≡ false = sym (one .before .is-within .ensures) ∙ one .if1 .left in
-    let second : within label.RearSurroundLeft label.CenterSurroundDirect n ≡ false = sym (two .before .is-within2 .ensures) ∙ two .if2 .left in
-    let third : within label.AmbisonicW label.XYY n ≡ false = sym (three .before .is-within3 .ensures) ∙ three .if3 .left in
-    let is : inRuns n ≡ c .is-among .result = rw (first, second, third) (sym (c .is-among .ensures)) in sym is ∙ in-runs n
+    let three = c .before in
+    let n = three .before .before .before .args .n in
+    let is : byTests n ≡ true =
+    rw (le-ltb n 64 (omega arith), ne-eqb (n / 8) 25 (three .before .if2 .left), ne-eqb (n / 64) 4 (three .if3 .left), one-of n apart (c .match .keys1)) in sym is ∙ by-tests n
+
+returns-5 : tie.Need-returns-5
+returns-5 c =
+    let three = c .before in
+    let n = three .before .before .before .args .n in
+    let is : byTests n ≡ false =
+    rw (le-ltb n 64 (omega arith), ne-eqb (n / 8) 25 (three .before .if2 .left), ne-eqb (n / 64) 4 (three .if3 .left), none-of n apart (c .match .rest .1)) in sym is ∙ by-tests n
 
 pub known-label-spec : {M : Type 1} → statement M
 known-label-spec =
     tie.close
-    (tie.spec
-    is-within-requires
-    returns
-    is-within-requires-2
-    returns-2
-    is-within-requires-3
-    returns-3
-    slice-aggregate-is-among
-    is-among-requires
-    returns-4)
+    (tie.spec has-bit-requires returns returns-2 has-bit-requires-2 returns-3 returns-4 returns-5)

@@ -22,11 +22,19 @@ abbrev μ-loop : tie.MeasureT-loop
 loop-holds : tie.Need-loop-holds Inv-loop μ-loop
 loop-holds c = (omega arith, refl)
 
-add-word-at : tie.Need-add-word-at Inv-loop μ-loop
-add-word-at c = let p = c .before .before .before .pre in record { fits = omega (arith, p .1) }
+add-known-label : tie.Need-add-known-label Inv-loop μ-loop
+add-known-label c = let p = c .before .before .before .pre in record { fits = omega (arith, p .1) }
 
-word-at-requires : tie.Need-word-at-requires Inv-loop μ-loop
-word-at-requires c κs = search needs
+mul-known-label : tie.Need-mul-known-label Inv-loop μ-loop
+mul-known-label c = let p = c .before .before .before .pre in record { fits = omega (arith, p .1) }
+
+shared-slice-read-known-label : tie.Need-shared-slice-read-known-label Inv-loop μ-loop
+shared-slice-read-known-label c =
+    let p = c .before .before .before .before .pre in
+    omega (arith, p .1, is-record (c .before .before .before .before .args .numbers .now) (p .0) .places)
+
+cast-known-label : tie.Need-cast-known-label Inv-loop μ-loop
+cast-known-label c = search needs
 
 known-label-requires : tie.Need-known-label-requires Inv-loop μ-loop
 known-label-requires c κs = search needs
@@ -39,7 +47,7 @@ returns c =
     let below : l .i < a .count = c .before .before .before .loop-test .taken in
     let ls = take (a .count) (labelsIn (a .numbers .now)) in
     let known : knownLabel (getD ls (l .i) 0) ≡ c .before .known-label .result =
-    ap knownLabel (sym (c .before .before .word-at .ensures ∙ label-at (a .numbers .now) is (a .count) (c .before .before .before .before .before .before .pre .1) (l .i) below)) ∙ sym (c .before .known-label .ensures) in
+    ap knownLabel (sym (label-at (a .numbers .now) is (a .count) (c .before .before .before .before .before .before .pre .1) (l .i) below)) ∙ sym (c .before .known-label .ensures) in
     let split = drop-cons ls (l .i) 0 (rw (many (a .numbers .now) is (a .count) (c .before .before .before .before .before .before .pre .1)) below) in
     sym (l .inv .1 ∙ rw (split, known ∙ not-true _ (c .if1 .taken)))
 
@@ -57,7 +65,7 @@ loop-again c =
     let below : l .i < a .count = c .before .before .before .loop-test .taken in
     let ls = take (a .count) (labelsIn (a .numbers .now)) in
     let known : knownLabel (getD ls (l .i) 0) ≡ c .before .known-label .result =
-    ap knownLabel (sym (c .before .before .word-at .ensures ∙ label-at (a .numbers .now) is (a .count) (c .before .before .before .before .before .before .pre .1) (l .i) below)) ∙ sym (c .before .known-label .ensures) in
+    ap knownLabel (sym (label-at (a .numbers .now) is (a .count) (c .before .before .before .before .before .before .pre .1) (l .i) below)) ∙ sym (c .before .known-label .ensures) in
     let split = drop-cons ls (l .i) 0 (rw (many (a .numbers .now) is (a .count) (c .before .before .before .before .before .before .pre .1)) below) in
     (omega arith, rw add-one (l .inv .1 ∙ rw (split, known ∙ not-false _ (c .if1 .left))))
 
@@ -76,8 +84,10 @@ labels-known-spec =
     Inv-loop
     μ-loop
     loop-holds
-    add-word-at
-    word-at-requires
+    add-known-label
+    mul-known-label
+    shared-slice-read-known-label
+    cast-known-label
     known-label-requires
     returns
     add-i

@@ -1,29 +1,28 @@
--- The labels by the runs that their numbers stand in: the same as by the list of 47. Below 306 it is computed, number by number; above
--- stands one label, the first of either list.
+-- The labels by the tests of the code: the same as by the list of 47. Below 320 it is computed, number by number; from there on
+-- stands one label, the first of the list.
 use mathlib.Core.Path.{_≡_, refl}
-use mathlib.Core.Bool.{Bool, true, false, not, _&&_, _||_}
+use mathlib.Core.Bool.{Bool, true, false, cond, not, _&&_}
 use mathlib.Core.List.{List, [], _∷_}
-use Prim.Native.Nat.{ℕ, zero, suc, _<_, _≤_}
+use Prim.Native.Nat.{ℕ, zero, suc, _/_, _%_, _^_, _<_, _≤_}
 use native.Mathlib.Omega.{arith}
-use lib.Dec.{eqb, leb, ltb}
+use lib.Dec.{eqb, ltb}
 use lib.ListN.{drop}
-use borrow.Author.Tests.{le-leb, lt-leb, ne-eqb, ltb-true, ltb-false}
+use borrow.Author.Tests.{ne-eqb, le-ltb, ltb-true, ltb-false}
 use Rattle.layout.specs.Labels as label
 use Rattle.layout.specs.Known.{among, knownLabel}
 use Rattle.layout.proofs.Every.{both}
 
-abbrev pub within : ℕ → ℕ → ℕ → Bool
-within first last n = leb first n && leb n last
+-- the bit of n in a word for its 64 numbers
+abbrev pub hasBit : ℕ → ℕ → Bool
+hasBit word n = eqb (word / 2 ^ (n % 64) % 2) 1
 
-abbrev pub alone : List ℕ
-alone =
-    label.Unknown ∷ label.UseCoordinates ∷ label.LeftTopMiddle ∷ label.RightTopMiddle ∷ label.HeadphonesLeft ∷ label.HeadphonesRight ∷
-    label.ClickTrack ∷ label.ForeignLanguage ∷ []
+abbrev pub apart : List ℕ
+apart = label.UseCoordinates ∷ label.Unknown ∷ []
 
-abbrev pub inRuns : ℕ → Bool
-inRuns n =
-    within label.Unused label.TopBackRight n || (within label.RearSurroundLeft label.CenterSurroundDirect n ||
-    (within label.AmbisonicW label.XYY n || among n alone))
+abbrev pub byTests : ℕ → Bool
+byTests n =
+    cond (ltb n 64) (hasBit 0xA_1FFE_0007_FFFF n)
+    (cond (eqb (n / 8) 25) true (cond (eqb (n / 64) 4) (hasBit 0x3_6000_0000_0000 n) (among n apart)))
 
 -- a test that is computed for every number below k
 abbrev below : ℕ → (ℕ → Bool) → Bool
@@ -50,9 +49,9 @@ same-is false true h = cc
 same-is false false h = refl
 
 abbrev least : ℕ
-least = 306
+least = 320
 
-computed : below least (λ n. same (inRuns n) (knownLabel n)) ≡ true
+computed : below least (λ n. same (byTests n) (knownLabel n)) ≡ true
 unfolding knownLabel
 computed = refl
 
@@ -68,23 +67,20 @@ in-none n (x ∷ xs) s h =
     let other : eqb n x ≡ false = ne-eqb n x (λ e. let z : ⊥ = omega (arith, ltb-true x least (b .0)) in z) in
     rw (other, in-none n xs (b .1) h)
 
-above : (n : ℕ) → least ≤ n → inRuns n ≡ knownLabel n
+above : (n : ℕ) → least ≤ n → byTests n ≡ knownLabel n
 unfolding knownLabel
 above n h =
     rw (
-      le-leb label.Unused n (omega arith),
-      lt-leb n label.TopBackRight (omega arith),
-      le-leb label.RearSurroundLeft n (omega arith),
-      lt-leb n label.CenterSurroundDirect (omega arith),
-      le-leb label.AmbisonicW n (omega arith),
-      lt-leb n label.XYY (omega arith),
-      in-none n (drop 1 alone) refl h,
+      le-ltb n 64 (omega arith),
+      ne-eqb (n / 8) 25 (λ e. let z : ⊥ = omega arith in z),
+      ne-eqb (n / 64) 4 (λ e. let z : ⊥ = omega arith in z),
       in-none n (drop 1 label.labels) refl h,
+      ne-eqb n label.UseCoordinates (λ e. let z : ⊥ = omega arith in z),
     )
 
-pub in-runs : (n : ℕ) → inRuns n ≡ knownLabel n
-in-runs n = go (ltb n least) refl
+pub by-tests : (n : ℕ) → byTests n ≡ knownLabel n
+by-tests n = go (ltb n least) refl
   where
-    go : (b : Bool) → ltb n least ≡ b → inRuns n ≡ knownLabel n
-    go true e = same-is (inRuns n) (knownLabel n) (each-below (λ m. same (inRuns m) (knownLabel m)) least n computed (ltb-true n least e))
+    go : (b : Bool) → ltb n least ≡ b → byTests n ≡ knownLabel n
+    go true e = same-is (byTests n) (knownLabel n) (each-below (λ m. same (byTests m) (knownLabel m)) least n computed (ltb-true n least e))
     go false e = above n (ltb-false n least e)
