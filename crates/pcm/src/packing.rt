@@ -1,13 +1,14 @@
 // Samples packed into a lent buffer.
 use crate::sample::SAMPLE_SIZE;
+use crate::sample::low_bits;
 use crate::sample::sample_bytes;
+use crate::twelve::put_twelve;
 use answers::DONE;
 use answers::NO_ROOM;
 use byteorder::store::store;
 use format::Endianness;
 ghost use mathlib.Core.Path.{_≡_};
 ghost use Prim.Native.Nat.{_+_, _*_, _≤_, min};
-ghost use mathlib.Core.List.{_++_};
 ghost use lib.ListN.{length, take};
 ghost use Rattle.byteorder.specs.Splice.{splice, storeCount, storeFirst};
 ghost use Rattle.pcm.specs.Sample.{low24, bytes24};
@@ -23,27 +24,6 @@ fn put_sample(buf: &mut [u8], at: usize, x: i32, endianness: Endianness)
     buf[at + 2] = b[2];
 }
 
-// Four bytes by value: a compiler stores them at once.
-fn put_word(buf: &mut [u8], at: usize, word: [u8; 4])
-    requires { ⌜ at + 4 ≤ length (now buf) ⌝ }
-    ensures { λ _. ⌜ now (buf .exit) ≡ splice (now (buf .entry)) at word ⌝ }
-{
-    buf[at] = word[0];
-    buf[at + 1] = word[1];
-    buf[at + 2] = word[2];
-    buf[at + 3] = word[3];
-}
-
-// The bytes of four samples, in three stores.
-fn put_twelve(buf: &mut [u8], at: usize, a: [u8; 3], b: [u8; 3], c: [u8; 3], d: [u8; 3])
-    requires { ⌜ at + 12 ≤ length (now buf) ⌝ }
-    ensures { λ _. ⌜ now (buf .exit) ≡ splice (now (buf .entry)) at (a ++ (b ++ (c ++ d))) ⌝ }
-{
-    put_word(buf, at, [a[0], a[1], a[2], b[0]]);
-    put_word(buf, at + 4, [b[1], b[2], c[0], c[1]]);
-    put_word(buf, at + 8, [c[2], d[0], d[1], d[2]]);
-}
-
 // Whole samples, four at a time: how many of the first k there are.
 fn put_fours(samples: &[i32], endianness: Endianness, buf: &mut [u8], at: usize, k: usize) -> usize
     requires { ⌜ (k ≤ length (now samples)) × (at + sampleSize * k ≤ length (now buf)) ⌝ }
@@ -51,11 +31,11 @@ fn put_fours(samples: &[i32], endianness: Endianness, buf: &mut [u8], at: usize,
 {
     let mut i: usize = 0;
     while 4 <= k - i {
-        let a = sample_bytes(samples[i], endianness);
-        let b = sample_bytes(samples[i + 1], endianness);
-        let c = sample_bytes(samples[i + 2], endianness);
-        let d = sample_bytes(samples[i + 3], endianness);
-        put_twelve(buf, at + SAMPLE_SIZE * i, a, b, c, d);
+        let a = low_bits(samples[i]);
+        let b = low_bits(samples[i + 1]);
+        let c = low_bits(samples[i + 2]);
+        let d = low_bits(samples[i + 3]);
+        put_twelve(buf, at + SAMPLE_SIZE * i, a, b, c, d, endianness);
         i += 4;
     }
     i

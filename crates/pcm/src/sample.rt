@@ -11,7 +11,7 @@ pub const SAMPLE_SIZE: usize = 3;
 
 // Adding 2^32 keeps x mod 2^24 and leaves no sign.
 pub(crate) fn low_bits(x: i32) -> u32
-    ensures { λ r. ⌜ r ≡ low24 x ⌝ }
+    ensures { λ r. ⌜ (r ≡ low24 x) × (r < 2 ^ 24) ⌝ }
 {
     let y = (x as i64) + 0x1_0000_0000;
     ((y as u64) % 0x100_0000) as u32

@@ -1,7 +1,7 @@
 use Rattle.pcm.proofs.Fours.{next-four}
 use Rattle.pcm.proofs.Lift.{passed}
 use Rattle.pcm.specs.Packing.{sampleSize}
-use Rattle.pcm.specs.Sample.{low24, bytes24}
+use Rattle.pcm.specs.Sample.{low24}
 use lib.IntN.{ℤ, pos}
 use mathlib.Core.Path.{_≡_, refl, ap, sym, _∙_}
 use Prim.Native.Nat.{ℕ, _≤_, _-_, _+_, _*_}
@@ -26,53 +26,50 @@ loop-holds c = (omega arith, refl, sym (splice-nil (c .before .args .buf .now) (
 sub-loop : tie.Need-sub-loop Inv-loop μ-loop
 sub-loop c = search needs
 
-mul-sample-bytes : tie.Need-mul-sample-bytes Inv-loop μ-loop
-mul-sample-bytes c = search needs
+mul-low-bits : tie.Need-mul-low-bits Inv-loop μ-loop
+mul-low-bits c = search needs
 
-shared-slice-copy-out-sample-bytes : tie.Need-shared-slice-copy-out-sample-bytes Inv-loop μ-loop
-shared-slice-copy-out-sample-bytes c = search needs
+shared-slice-copy-out-low-bits : tie.Need-shared-slice-copy-out-low-bits Inv-loop μ-loop
+shared-slice-copy-out-low-bits c = search needs
 
-sample-bytes-requires : tie.Need-sample-bytes-requires Inv-loop μ-loop
-sample-bytes-requires c κs = search needs
+low-bits-requires : tie.Need-low-bits-requires Inv-loop μ-loop
+low-bits-requires c κs = search needs
 
-add-sample-bytes : tie.Need-add-sample-bytes Inv-loop μ-loop
-add-sample-bytes c = search needs
+add-low-bits : tie.Need-add-low-bits Inv-loop μ-loop
+add-low-bits c = search needs
 
-mul-sample-bytes-2 : tie.Need-mul-sample-bytes-2 Inv-loop μ-loop
-mul-sample-bytes-2 c = search needs
+mul-low-bits-2 : tie.Need-mul-low-bits-2 Inv-loop μ-loop
+mul-low-bits-2 c = search needs
 
-shared-slice-copy-out-sample-bytes-2 :
-    tie.Need-shared-slice-copy-out-sample-bytes-2 Inv-loop μ-loop
-shared-slice-copy-out-sample-bytes-2 c = search needs
+shared-slice-copy-out-low-bits-2 : tie.Need-shared-slice-copy-out-low-bits-2 Inv-loop μ-loop
+shared-slice-copy-out-low-bits-2 c = search needs
 
-sample-bytes-requires-2 : tie.Need-sample-bytes-requires-2 Inv-loop μ-loop
-sample-bytes-requires-2 c κs = search needs
+low-bits-requires-2 : tie.Need-low-bits-requires-2 Inv-loop μ-loop
+low-bits-requires-2 c κs = search needs
 
-add-sample-bytes-2 : tie.Need-add-sample-bytes-2 Inv-loop μ-loop
-add-sample-bytes-2 c = search needs
+add-low-bits-2 : tie.Need-add-low-bits-2 Inv-loop μ-loop
+add-low-bits-2 c = search needs
 
-mul-sample-bytes-3 : tie.Need-mul-sample-bytes-3 Inv-loop μ-loop
-mul-sample-bytes-3 c = search needs
+mul-low-bits-3 : tie.Need-mul-low-bits-3 Inv-loop μ-loop
+mul-low-bits-3 c = search needs
 
-shared-slice-copy-out-sample-bytes-3 :
-    tie.Need-shared-slice-copy-out-sample-bytes-3 Inv-loop μ-loop
-shared-slice-copy-out-sample-bytes-3 c = search needs
+shared-slice-copy-out-low-bits-3 : tie.Need-shared-slice-copy-out-low-bits-3 Inv-loop μ-loop
+shared-slice-copy-out-low-bits-3 c = search needs
 
-sample-bytes-requires-3 : tie.Need-sample-bytes-requires-3 Inv-loop μ-loop
-sample-bytes-requires-3 c κs = search needs
+low-bits-requires-3 : tie.Need-low-bits-requires-3 Inv-loop μ-loop
+low-bits-requires-3 c κs = search needs
 
-add-sample-bytes-3 : tie.Need-add-sample-bytes-3 Inv-loop μ-loop
-add-sample-bytes-3 c = search needs
+add-low-bits-3 : tie.Need-add-low-bits-3 Inv-loop μ-loop
+add-low-bits-3 c = search needs
 
-mul-sample-bytes-4 : tie.Need-mul-sample-bytes-4 Inv-loop μ-loop
-mul-sample-bytes-4 c = search needs
+mul-low-bits-4 : tie.Need-mul-low-bits-4 Inv-loop μ-loop
+mul-low-bits-4 c = search needs
 
-shared-slice-copy-out-sample-bytes-4 :
-    tie.Need-shared-slice-copy-out-sample-bytes-4 Inv-loop μ-loop
-shared-slice-copy-out-sample-bytes-4 c = search needs
+shared-slice-copy-out-low-bits-4 : tie.Need-shared-slice-copy-out-low-bits-4 Inv-loop μ-loop
+shared-slice-copy-out-low-bits-4 c = search needs
 
-sample-bytes-requires-4 : tie.Need-sample-bytes-requires-4 Inv-loop μ-loop
-sample-bytes-requires-4 c κs = search needs
+low-bits-requires-4 : tie.Need-low-bits-requires-4 Inv-loop μ-loop
+low-bits-requires-4 c κs = search needs
 
 mul-put-twelve : tie.Need-mul-put-twelve Inv-loop μ-loop
 mul-put-twelve c = search needs
@@ -90,18 +87,23 @@ loop-less : tie.Need-loop-less Inv-loop μ-loop
 loop-less c = search needs
 
 loop-again : tie.Need-loop-again Inv-loop μ-loop
-loop-again c = let l = c .before .before .before .before .before .before .before .before .before .before .before .before .before .loop in
-    let a = c .before .before .before .before .before .before .before .before .before .before .before .before .before .before .before .args in
-    let e = a .endianness in
+loop-again c =
+    let put = c .before .before in
+    let four = put .before .before in
+    let three = four .before .before in
+    let two = three .before .before in
+    let one = two .before .before in
+    let l = one .before .before .before .loop in
+    let a = one .before .before .before .before .before .args in
     let xs = a .samples .now in (
       omega arith,
-      omega (arith, c .before .before .put-twelve .kept),
-      next-four e xs (l .i) (a .at) (a .buf .now) (l .buf) (c .before .before .put-twelve .last .0) (c .before .before .before .before .before .before .before .before .before .before .sample-bytes .result) (c .before .before .before .before .before .before .before .before .sample-bytes2 .result) (c .before .before .before .before .before .before .sample-bytes3 .result) (c .before .before .before .before .sample-bytes4 .result) (omega arith) (omega arith)
-          (c .before .before .before .before .before .before .before .before .before .before .sample-bytes .ensures ∙ ap (bytes24 e) (passed (getD xs (l .i) (pos 0)) (record { sfits = c .before .before .before .before .before .before .before .before .before .before .before .sample-bytes-arg .given })))
-          (c .before .before .before .before .before .before .before .before .sample-bytes2 .ensures ∙ ap (bytes24 e) (passed (getD xs (l .i + 1) (pos 0)) (record { sfits = c .before .before .before .before .before .before .before .before .before .sample-bytes-arg2 .given })))
-          (c .before .before .before .before .before .before .sample-bytes3 .ensures ∙ ap (bytes24 e) (passed (getD xs (l .i + 2) (pos 0)) (record { sfits = c .before .before .before .before .before .before .before .sample-bytes-arg3 .given })))
-          (c .before .before .before .before .sample-bytes4 .ensures ∙ ap (bytes24 e) (passed (getD xs (l .i + 3) (pos 0)) (record { sfits = c .before .before .before .before .before .sample-bytes-arg4 .given })))
-          (l .inv .2) (c .before .before .put-twelve .ensures),
+      omega (arith, put .put-twelve .kept),
+      next-four (a .endianness) xs (l .i) (a .at) (a .buf .now) (l .buf) (put .put-twelve .last .0) (one .low-bits .result) (two .low-bits2 .result) (three .low-bits3 .result) (four .low-bits4 .result) (omega arith) (omega arith)
+          (one .low-bits .ensures .0 ∙ passed (getD xs (l .i) (pos 0)) (record { sfits = one .before .low-bits-arg .given }))
+          (two .low-bits2 .ensures .0 ∙ passed (getD xs (l .i + 1) (pos 0)) (record { sfits = two .before .low-bits-arg2 .given }))
+          (three .low-bits3 .ensures .0 ∙ passed (getD xs (l .i + 2) (pos 0)) (record { sfits = three .before .low-bits-arg3 .given }))
+          (four .low-bits4 .ensures .0 ∙ passed (getD xs (l .i + 3) (pos 0)) (record { sfits = four .before .low-bits-arg4 .given }))
+          (l .inv .2) (put .put-twelve .ensures),
     )
 
 same-length : tie.Need-same-length Inv-loop μ-loop
@@ -118,21 +120,21 @@ put-fours-spec =
     μ-loop
     loop-holds
     sub-loop
-    mul-sample-bytes
-    shared-slice-copy-out-sample-bytes
-    sample-bytes-requires
-    add-sample-bytes
-    mul-sample-bytes-2
-    shared-slice-copy-out-sample-bytes-2
-    sample-bytes-requires-2
-    add-sample-bytes-2
-    mul-sample-bytes-3
-    shared-slice-copy-out-sample-bytes-3
-    sample-bytes-requires-3
-    add-sample-bytes-3
-    mul-sample-bytes-4
-    shared-slice-copy-out-sample-bytes-4
-    sample-bytes-requires-4
+    mul-low-bits
+    shared-slice-copy-out-low-bits
+    low-bits-requires
+    add-low-bits
+    mul-low-bits-2
+    shared-slice-copy-out-low-bits-2
+    low-bits-requires-2
+    add-low-bits-2
+    mul-low-bits-3
+    shared-slice-copy-out-low-bits-3
+    low-bits-requires-3
+    add-low-bits-3
+    mul-low-bits-4
+    shared-slice-copy-out-low-bits-4
+    low-bits-requires-4
     mul-put-twelve
     add-put-twelve
     put-twelve-requires

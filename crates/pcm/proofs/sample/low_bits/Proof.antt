@@ -19,7 +19,7 @@ cast-result-2 : tie.Need-cast-result-2
 cast-result-2 c = search needs
 
 returns : tie.Need-returns
-returns c = rw (cast (c .args .x) (c .fits .x)) (low-is (c .args .x) (c .fits .x))
+returns c = (rw (cast (c .args .x) (c .fits .x)) (low-is (c .args .x) (c .fits .x)), omega arith)
 
 pub low-bits-spec : {M : Type 1} → statement M
 low-bits-spec = tie.close (tie.spec cast-y add-y cast-result cast-result-2 returns)

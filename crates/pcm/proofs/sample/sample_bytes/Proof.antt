@@ -24,12 +24,12 @@ enum-told-2 c = search needs
 returns : tie.Need-returns
 returns c =
     let a = c .before .before .before in
-    rw (c .enum-told .given .1, c .before .before .low-bits .ensures, passed (a .args .x) (a .fits .x))
+    rw (c .enum-told .given .1, c .before .before .low-bits .ensures .0, passed (a .args .x) (a .fits .x))
 
 returns-2 : tie.Need-returns-2
 returns-2 c =
     let a = c .before .before .before in
-    rw (c .enum-told2 .given .1, c .before .before .low-bits .ensures, passed (a .args .x) (a .fits .x))
+    rw (c .enum-told2 .given .1, c .before .before .low-bits .ensures .0, passed (a .args .x) (a .fits .x))
 
 pub sample-bytes-spec : {M : Type 1} → statement M
 sample-bytes-spec =

@@ -1,9 +1,9 @@
-use Rattle.pcm.proofs.Fours.{four-stores}
-use lib.ListN.{length-set}
 use native.Mathlib.Omega.{arith}
+use lib.ListN.{length-set}
+use Rattle.pcm.proofs.Words.{stores}
 use borrow.Author.Needs.{needs}
-use Rattle.pcm.proofs.packing.put_word.Statement.{statement}
-use Rattle.pcm.proofs.packing.put_word.Tie as tie
+use Rattle.pcm.proofs.twelve.put_word.Statement.{statement}
+use Rattle.pcm.proofs.twelve.put_word.Tie as tie
 
 array-read-buf : tie.Need-array-read-buf
 array-read-buf c = search needs
@@ -42,7 +42,7 @@ same-length : tie.Need-same-length
 same-length c = search needs
 
 returns : tie.Need-returns
-returns c = four-stores (c .args .buf .now) (c .args .at) (c .args .t3) (search needs) (c .pre)
+returns c = stores (c .args .t3) (c .args .at) 3 (c .args .buf .now) (search needs) (c .pre)
 
 pub put-word-spec : {M : Type 1} → statement M
 put-word-spec =
