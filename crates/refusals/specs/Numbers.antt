@@ -1,7 +1,7 @@
 -- 01, Numbers given back: which number refuses a call, from what it asks of its record. room is the length of the lent buffer.
 use Prim.Native.Nat.{ℕ, _+_}
 use mathlib.Core.Bool.{Bool, true, false, cond, not, _||_}
-use lib.Dec.{ltb, eqb}
+use lib.Dec.{ltb}
 use Rattle.answers.specs.Numbers.{done, badWriter, finished, noHeader, noFormat, noRoom, fileMax}
 use Rattle.format.specs.declared.MaybeFormat.{MaybeFormat}
 use Rattle.format.specs.declared.MaybeFormat.the-variants.{Absent, Present}
@@ -32,10 +32,6 @@ samplesNumberAs sound isFinished hasHeader absent fileLen room n =
     (cond absent noFormat
     (cond (exceeds (fileLen + n) room) noRoom
     done))))
-
--- the number for packing, from the one for as many bytes
-abbrev pub withoutFormat : ℕ → ℕ
-withoutFormat number = cond (eqb number done) noFormat (cond (eqb number noRoom) noFormat number)
 
 -- a finish, by the same order. A second finish is no fault
 abbrev pub finishNumberAs : (sound isFinished hasHeader : Bool) → ℕ

@@ -7,7 +7,7 @@ use answers::NO_FORMAT;
 use answers::NO_HEADER;
 use answers::NO_ROOM;
 ghost use mathlib.Core.Path.{_≡_};
-ghost use Rattle.refusals.specs.Numbers.{dataNumberAs, samplesNumberAs, withoutFormat, finishNumberAs};
+ghost use Rattle.refusals.specs.Numbers.{dataNumberAs, samplesNumberAs, finishNumberAs};
 
 // A data call of n bytes.
 pub fn data_number(
@@ -35,20 +35,7 @@ pub fn data_number(
     DONE
 }
 
-// The number for packing into a file without a format, from the one for as many bytes: NoFormat comes before NoRoom and after the others.
-fn without_format(number: u32) -> u32
-    ensures { λ r. ⌜ r ≡ withoutFormat number ⌝ }
-{
-    if number == DONE {
-        return NO_FORMAT;
-    }
-    if number == NO_ROOM {
-        return NO_FORMAT;
-    }
-    number
-}
-
-// A call of samples that pack into n bytes.
+// A call of samples that pack into n bytes: as a data call of them, but for NoFormat, which comes before NoRoom and after the others.
 pub fn samples_number(
     sound: bool,
     finished: bool,
@@ -60,11 +47,10 @@ pub fn samples_number(
 ) -> u32
     ensures { λ r. ⌜ r ≡ samplesNumberAs sound finished «has_header» absent «file_len» room n ⌝ }
 {
-    let number = data_number(sound, finished, has_header, file_len, room, n);
-    if absent {
-        return without_format(number);
+    if sound && !finished && has_header && absent {
+        return NO_FORMAT;
     }
-    number
+    data_number(sound, finished, has_header, file_len, room, n)
 }
 
 // A second finish is no fault.
