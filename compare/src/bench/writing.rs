@@ -7,7 +7,7 @@ use std::mem::ManuallyDrop;
 use oracle::caf::{CAFWriter, ChannelLabel, ChannelLayoutTag, Endianness, PCMDataType};
 
 use crate::linked::{self, Writer};
-use crate::race::{Goal, Table, Windows, repeated};
+use crate::race::{Goal, Side, Table, Windows, repeated};
 use crate::{KIB, MIB};
 
 /// Head, format and the start of the data.
@@ -59,33 +59,32 @@ pub fn data_calls(table: &Table) {
     }
 }
 
-/// A writer of 64 channels that has written its header, with so many labels described or with a tag, and its file.
-fn many_channels(labels: Option<&[u32]>) -> (Writer, Vec<u8>) {
+/// What a call costs that does nothing, on a writer of 64 channels with this layout: the record that it is lent is looked at all the same.
+fn empty_call<'a>(set_layout: impl FnOnce(&mut Writer) -> u32) -> Side<'a> {
     let (mut writer, mut file) = (Writer::new(), vec![0; 2 * KIB]);
     assert_eq!(writer.set_format(48000.0, 64, 24, false, false), 0);
-    let set = match labels {
-        Some(labels) => writer.set_labels(labels),
-        None => writer.set_tag(ChannelLayoutTag::Stereo as u32),
-    };
-    assert_eq!(set, 0);
+    assert_eq!(set_layout(&mut writer), 0);
     assert_eq!(writer.header(&mut file), 0);
-    (writer, file)
+    repeated(move || assert_eq!(writer.data(black_box(&mut file), &[]), 0))
 }
 
-/// What a call costs that does nothing: the record that it is lent is looked at all the same.
 pub fn empty_calls(table: &Table) {
-    let empty = |labels| {
-        let (mut writer, mut file) = many_channels(labels);
-        repeated(move || assert_eq!(writer.data(black_box(&mut file), &[]), 0))
-    };
-    let labels: Vec<_> = (0..64).map(|i| ChannelLabel::AmbisonicW as u32 + i % 8).collect();
+    let by_tag = |tag: ChannelLayoutTag| empty_call(move |writer| writer.set_tag(tag as u32));
+    let stereo = || by_tag(ChannelLayoutTag::Stereo);
     if let Some(row) = table.row("empty data call, layout by tag", "the Rust writer", Goal::Nanoseconds(40.0)) {
         let mut file = vec![0; 2 * KIB];
         let mut writer = rust_writer(&mut file);
-        row.race(empty(None), repeated(move || writer.write_data(black_box(&[])).expect("room")));
+        row.race(stereo(), repeated(move || writer.write_data(black_box(&[])).expect("room")));
     }
-    if let Some(row) = table.row("empty data call, 64 labels described", "the same by tag", Goal::Ratio(1.1)) {
-        row.race(empty(Some(&labels)), empty(None));
+    if let Some(row) = table.row("empty data call, the last of the tags", "the same by the tag of stereo", Goal::Ratio(1.1)) {
+        row.race(by_tag(ChannelLayoutTag::ReservedDoNotUse), stereo());
+    }
+    let labels: Vec<_> = (0..64).map(|i| ChannelLabel::AmbisonicW as u32 + i % 8).collect();
+    for count in [8, 64] {
+        let what = format!("empty data call, {count} labels described");
+        if let Some(row) = table.row(what, "the same by the tag of stereo", Goal::Ratio(1.1)) {
+            row.race(empty_call(|writer| writer.set_labels(&labels[..count])), stereo());
+        }
     }
 }
 

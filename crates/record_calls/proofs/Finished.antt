@@ -8,29 +8,17 @@ use lib.ListN.{length}
 use Rattle.answers.specs.Numbers.{done, fileMax}
 use Rattle.byteorder.proofs.Laws.{splice-nil}
 use Rattle.writer.specs.Record.{asFinished}
-use Rattle.writer.specs.Outcome.{Outcome, unchanged, stores, bufferAfter}
+use Rattle.writer.specs.Outcome.{stores, bufferAfter}
 use Rattle.writer.specs.Finish.{finishNumber, finalSize, finishCall}
 use Rattle.writer.specs.declared.CAFWriter.{CAFWriter}
 use Rattle.writer.proofs.Allowed.{finish-sound, finish-header}
 use Rattle.writer.proofs.Facts.{sound-alone, in-room, headed}
-use Rattle.writer.proofs.Whole.{finished-is}
+use Rattle.writer.proofs.Closing.{closing, closing-number, closing-after}
 use Rattle.record_numbers.specs.RecordNumbers.{isRecord, recordOf, recordNumbers}
 use Rattle.record_calls.specs.RecordCalls.{numberOn, callOn, Called, sizeStored}
 use Rattle.record_calls.proofs.Changed.{refused-called, changed-called}
 
--- what a finish comes to, where it is not refused
-abbrev closing : Bool → CAFWriter → Outcome
-closing b w = cond b (unchanged done w) (stores (w .«size_position») (finalSize w) (asFinished w))
-
-closing-number : (b : Bool) (w : CAFWriter) → closing b w .number ≡ done
-closing-number true w = refl
-closing-number false w = refl
-
--- marking a finished record as finished changes nothing
-closing-after : (b : Bool) (w : CAFWriter) → w .finished ≡ b → asFinished w ≡ closing b w .after
-closing-after true w e = finished-is w e
-closing-after false w e = refl
-
+-- the size is stored where it does not stand yet
 closing-stored : (b : Bool) (w : CAFWriter) (buf : List ℕ) → cond b buf (bufferAfter (stores (w .«size_position») (finalSize w) (asFinished w)) buf) ≡ bufferAfter (closing b w) buf
 closing-stored true w buf = sym (splice-nil buf 0)
 closing-stored false w buf = refl
