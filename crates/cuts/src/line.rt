@@ -1,9 +1,10 @@
 // One film, on one line.
-use crate::film::Film;
-use crate::film::ROOM;
-use crate::film::SESSIONS;
+use crate::session::ROOM;
 use crate::session::make;
 use answers::DONE;
+use cut_films::digest::digest;
+use cut_films::film::Film;
+use cut_films::film::SESSIONS;
 use reading::StrictAnswer;
 use reading::plain::parse_caf_file;
 use reading::strict::read_strict;
@@ -33,17 +34,6 @@ fn show_film(film: Film) {
             show_session(lasts[session], stores[session]);
         }
     }
-}
-
-// Every byte counts, and its place.
-fn digest(file: &[u8]) -> u64 {
-    let mut d: u64 = 0;
-    let mut i: usize = 0;
-    while i < file.len() {
-        d = d % 0x1_0000_0000 * 1_000_003 + file[i] as u64;
-        i += 1;
-    }
-    d % 0x1_0000_0000
 }
 
 fn show_answer(answer: StrictAnswer) {

@@ -3,22 +3,21 @@
 //
 //   LAYOUT LAST/STORES .. | NUMBER STORES LENGTH DIGEST | PLAIN | STRICT | RESUME FINISH DIGEST | STRICT
 //
-// - its layout, and for each session the last call and how many of its stores were asked for;
+// - its layout, and for each session the last call (cut_films/src/calls.rt) and how many of its stores were asked for;
 // - what the last of these calls answered, the length of the file that it left, and a digest of its bytes;
 // - the numbers of the two readings of it, and what the strict one finds;
 // - the numbers of a resume and a finish, a digest of what they make of it, and its strict reading. Where the resume is refused there is
 //   no finish, and the digest is that of the file as it then stands.
 //
 // tools/check_cuts.py makes every line anew and holds it to demand 3.
-mod film;
 mod line;
 mod session;
 
-use film::Film;
-use film::LAST_CALLS;
-use film::ROOM;
-use film::started;
-use film::then;
+use cut_films::calls::LAST_CALLS;
+use cut_films::film::Film;
+use cut_films::film::started;
+use cut_films::film::then;
+use session::ROOM;
 
 // Every cut of one more session with this last call, from no store up to one more than it has.
 fn cut_everywhere(film: Film, last: u32) {

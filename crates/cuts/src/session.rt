@@ -1,85 +1,28 @@
 // The sessions of a film, made one after the other, the last call of each cut.
-use crate::film::AUDIO;
-use crate::film::Film;
-use crate::film::ROOM;
-use crate::film::SESSIONS;
-use crate::film::audio;
-use crate::film::samples;
-use crate::film::then;
 use answers::DONE;
-use format::Endianness;
-use format::PCMDataType;
-use layout::label::LEFT;
-use layout::label::RIGHT;
-use layout::tag::STEREO;
+use cut_films::calls::cut_last;
+use cut_films::calls::with_bytes;
+use cut_films::calls::with_samples;
+use cut_films::film::Film;
+use cut_films::film::SESSIONS;
+use cut_films::film::then;
+use cut_films::settings::with_settings;
 use writer::CAFWriter;
 use writer::Counted;
-ghost use Prim.Native.Nat.{_≤_};
 
-fn with_settings(layout: u32) -> CAFWriter {
-    let set = CAFWriter::new().set_audio_format_with_options(
-        48000.0,
-        2,
-        24,
-        PCMDataType::SignedInteger,
-        Endianness::BigEndian,
-    );
-    let w = set.writer;
-    match layout {
-        0 => w,
-        1 => {
-            let tagged = w.set_channel_layout_tag(STEREO);
-            tagged.writer
-        }
-        _ => {
-            let described = w.set_channel_layout_for_labels(&[RIGHT, LEFT], 2);
-            described.writer
-        }
-    }
-}
-
-fn with_bytes(w: CAFWriter, buf: &mut [u8], session: usize, n: usize) -> CAFWriter {
-    let all = audio(session);
-    if AUDIO < n {
-        return w;
-    }
-    let wrote = w.write_data(buf, &all[..n]);
-    wrote.writer
-}
-
-fn with_samples(w: CAFWriter, buf: &mut [u8], session: usize) -> CAFWriter {
-    let two = samples(session);
-    let wrote = w.write_pcm_24bit_as_packed(buf, &two);
-    wrote.writer
-}
+// The longest film has 68 bytes of header and twice 251 of data.
+pub(crate) const ROOM: usize = 640;
 
 // The record that the last call finds.
 fn before_last(w: CAFWriter, buf: &mut [u8], session: usize, last: u32) -> CAFWriter {
+    let given = with_bytes(w, buf, session, last);
     match last {
-        2 => with_bytes(w, buf, session, 5),
-        4 => with_bytes(w, buf, session, 1),
-        5 => {
-            let five = with_bytes(w, buf, session, 5);
-            with_samples(five, buf, session)
-        }
-        6 => with_bytes(w, buf, session, AUDIO),
+        5 => with_samples(given, buf, session),
         7 => {
-            let one = with_bytes(w, buf, session, 1);
-            let wrote = one.finish(buf);
+            let wrote = given.finish(buf);
             wrote.writer
         }
-        _ => w,
-    }
-}
-
-// A last call other than the one that begins the session, cut after n stores.
-fn cut_last(w: CAFWriter, buf: &mut [u8], session: usize, last: u32, n: usize) -> Counted {
-    let all = audio(session);
-    let two = samples(session);
-    match last {
-        1 => w.write_data_counted(buf, &all[..1], n),
-        2 => w.write_pcm_24bit_as_packed_counted(buf, &two, n),
-        _ => w.finish_counted(buf, n),
+        _ => given,
     }
 }
 

@@ -1,7 +1,8 @@
 use mathlib.Core.Logic.{⊎-elim}
 use borrow.Author.Needs.{needs}
 use Prim.Native.Nat.{_≤_, _-_}
-use mathlib.Core.Path.{_≡_}
+use mathlib.Core.Path.{_≡_, ap, _∙_}
+use native.Mathlib.Omega.{arith}
 use lib.ListN.{length}
 use Rattle.cuts.proofs.session.make.Statement.{statement}
 use Rattle.cuts.proofs.session.make.Tie as tie
@@ -46,7 +47,7 @@ loop-less : tie.Need-loop-less Inv-loop μ-loop
 loop-less c = search needs
 
 loop-again : tie.Need-loop-again Inv-loop μ-loop
-loop-again c = ⊎-elim (λ w. search needs) (λ w. search needs) (c .if1 .came)
+loop-again c = ⊎-elim (λ w. (omega arith, ap length (w .5) ∙ w .2 .kept .0 ∙ c .before .before .before .loop .inv .1)) (λ w. (omega arith, ap length (w .1) ∙ c .before .before .before .loop .inv .1)) (c .if1 .came)
 
 same-length : tie.Need-same-length Inv-loop μ-loop
 same-length c = search needs

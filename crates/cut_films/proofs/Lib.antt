@@ -1,0 +1,5 @@
+mod Rest
+mod Runs
+mod Weighed
+mod Called
+mod Settled

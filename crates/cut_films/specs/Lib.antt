@@ -1,0 +1,5 @@
+pub mod Film
+pub mod Audio
+pub mod Settings
+pub mod Calls
+pub mod Digest
