@@ -22,7 +22,7 @@ apart = label.UseCoordinates ∷ label.Unknown ∷ []
 abbrev pub byTests : ℕ → Bool
 byTests n =
     cond (ltb n 64) (hasBit 0xA_1FFE_0007_FFFF n)
-    (cond (eqb (n / 8) 25) true (cond (eqb (n / 64) 4) (hasBit 0x3_6000_0000_0000 n) (among n apart)))
+    (cond (eqb (n / 64) 3) (hasBit 0xFF00 n) (cond (eqb (n / 64) 4) (hasBit 0x3_6000_0000_0000 n) (among n apart)))
 
 -- a test that is computed for every number below k
 abbrev below : ℕ → (ℕ → Bool) → Bool
@@ -72,7 +72,7 @@ unfolding knownLabel
 above n h =
     rw (
       le-ltb n 64 (omega arith),
-      ne-eqb (n / 8) 25 (λ e. let z : ⊥ = omega arith in z),
+      ne-eqb (n / 64) 3 (λ e. let z : ⊥ = omega arith in z),
       ne-eqb (n / 64) 4 (λ e. let z : ⊥ = omega arith in z),
       in-none n (drop 1 label.labels) refl h,
       ne-eqb n label.UseCoordinates (λ e. let z : ⊥ = omega arith in z),

@@ -1,5 +1,6 @@
 // Which numbers are labels and which are tags. A data call asks it of the tag of its record, or of each of its labels. So no list is
-// gone through: labels have a bit each, and the tags stand in a `match`, of which a compiler makes a few comparisons.
+// gone through: nearly every label has a bit in one of three words, and the tags stand in a `match`, of which a compiler makes a few
+// comparisons.
 use crate::label;
 use crate::tag;
 ghost use mathlib.Core.Path.{_≡_};
@@ -7,11 +8,56 @@ ghost use Prim.Native.Nat.{_/_, _%_, _^_};
 ghost use lib.Dec.{eqb};
 ghost use Rattle.layout.specs.Known.{knownLabel, knownTag, allKnown};
 
-// The labels from 0 to 63, a bit for each: 0 to 18, 33 to 44, 49 and 51.
-const LOW_LABELS: u64 = 0xA_1FFE_0007_FFFF;
+// The labels from 0 to 63, a bit for each.
+const LOW_LABELS: u64 = 1 << label::UNUSED
+    | 1 << label::LEFT
+    | 1 << label::RIGHT
+    | 1 << label::CENTER
+    | 1 << label::LFE_SCREEN
+    | 1 << label::LEFT_SURROUND
+    | 1 << label::RIGHT_SURROUND
+    | 1 << label::LEFT_CENTER
+    | 1 << label::RIGHT_CENTER
+    | 1 << label::CENTER_SURROUND
+    | 1 << label::LEFT_SURROUND_DIRECT
+    | 1 << label::RIGHT_SURROUND_DIRECT
+    | 1 << label::TOP_CENTER_SURROUND
+    | 1 << label::VERTICAL_HEIGHT_LEFT
+    | 1 << label::VERTICAL_HEIGHT_CENTER
+    | 1 << label::VERTICAL_HEIGHT_RIGHT
+    | 1 << label::TOP_BACK_LEFT
+    | 1 << label::TOP_BACK_CENTER
+    | 1 << label::TOP_BACK_RIGHT
+    | 1 << label::REAR_SURROUND_LEFT
+    | 1 << label::REAR_SURROUND_RIGHT
+    | 1 << label::LEFT_WIDE
+    | 1 << label::RIGHT_WIDE
+    | 1 << label::LFE2
+    | 1 << label::LEFT_TOTAL
+    | 1 << label::RIGHT_TOTAL
+    | 1 << label::HEARING_IMPAIRED
+    | 1 << label::NARRATION
+    | 1 << label::MONO
+    | 1 << label::DIALOG_CENTRIC_MIX
+    | 1 << label::CENTER_SURROUND_DIRECT
+    | 1 << label::LEFT_TOP_MIDDLE
+    | 1 << label::RIGHT_TOP_MIDDLE;
 
-// From 256 to 319: 301, 302, 304 and 305.
-const HIGH_LABELS: u64 = 0x3_6000_0000_0000;
+// From 192 to 255.
+const MIDDLE_LABELS: u64 = 1 << (label::AMBISONIC_W % 64)
+    | 1 << (label::AMBISONIC_X % 64)
+    | 1 << (label::AMBISONIC_Y % 64)
+    | 1 << (label::AMBISONIC_Z % 64)
+    | 1 << (label::MS_MID % 64)
+    | 1 << (label::MS_SIDE % 64)
+    | 1 << (label::XYX % 64)
+    | 1 << (label::XYY % 64);
+
+// From 256 to 319.
+const HIGH_LABELS: u64 = 1 << (label::HEADPHONES_LEFT % 64)
+    | 1 << (label::HEADPHONES_RIGHT % 64)
+    | 1 << (label::CLICK_TRACK % 64)
+    | 1 << (label::FOREIGN_LANGUAGE % 64);
 
 // The bit of n in a word for its 64 numbers.
 fn has_bit(word: u64, n: u32) -> bool
@@ -26,9 +72,8 @@ pub fn known_label(n: u32) -> bool
     if n < 64 {
         return has_bit(LOW_LABELS, n);
     }
-    // 200 to 207
-    if n / 8 == label::AMBISONIC_W / 8 {
-        return true;
+    if n / 64 == label::AMBISONIC_W / 64 {
+        return has_bit(MIDDLE_LABELS, n);
     }
     if n / 64 == label::HEADPHONES_LEFT / 64 {
         return has_bit(HIGH_LABELS, n);
