@@ -29,15 +29,17 @@ module _ (e : Endianness) (xs : List ℤ) where
       let three : packed e (take (i + 3) xs) ≡ packed e (take (i + 2) xs) ++ bytes (i + 2) = rw e3 at (packed-suc e xs (i + 2) (omega arith)) in
       rw (e4, packed-suc e xs (i + 3) (omega arith), three, two, one) (simp append-assoc)
 
-  -- where the first i samples stand, the bytes of four more are put after them
-  pub next-four : (i at : ℕ) (start buf last : List ℕ) (a b c d : ℕ) → i + 4 ≤ length xs → at + sampleSize * (i + 4) ≤ length start
+  -- where the first i of k samples stand, the bytes of four more are put after them
+  pub next-four : (i k at : ℕ) (start buf last : List ℕ) (a b c d : ℕ) → k ≤ length xs → at + sampleSize * k ≤ length start → (i ≤ k) × (length buf ≡ length start) × (buf ≡ splice start at (packed e (take i xs))) → 4 ≤ k - i
       → a ≡ low24 (getD xs i (pos 0)) → b ≡ low24 (getD xs (i + 1) (pos 0)) → c ≡ low24 (getD xs (i + 2) (pos 0)) → d ≡ low24 (getD xs (i + 3) (pos 0))
-      → buf ≡ splice start at (packed e (take i xs)) → last ≡ splice buf (at + sampleSize * i) (bytes24 e a ++ (bytes24 e b ++ (bytes24 e c ++ bytes24 e d))) → last ≡ splice start at (packed e (take (i + 4) xs))
-  next-four i at start buf last a b c d h room ea eb ec ed stands put =
+      → length last ≡ length buf → last ≡ splice buf (at + sampleSize * i) (bytes24 e a ++ (bytes24 e b ++ (bytes24 e c ++ bytes24 e d)))
+      → (i + 4 ≤ k) × (length last ≡ length start) × (last ≡ splice start at (packed e (take (i + 4) xs)))
+  next-four i k at start buf last a b c d h room stands left ea eb ec ed kept put =
+      let bs = bytes24 e a ++ (bytes24 e b ++ (bytes24 e c ++ bytes24 e d)) in
       let n : length (packed e (take i xs)) ≡ sampleSize * i = length-packed e (take i xs) ∙ ap (λ (m : ℕ). sampleSize * m) (length-take-le i xs (omega arith)) in
-      let l : length (bytes24 e a ++ (bytes24 e b ++ (bytes24 e c ++ bytes24 e d))) ≡ 12 = simp (length-append, length-bytes24) in
-      more start at (sampleSize * i) (packed e (take i xs)) (bytes24 e a ++ (bytes24 e b ++ (bytes24 e c ++ bytes24 e d))) stands put n (omega arith)
-      ∙ ap (λ (bs : List ℕ). splice start at bs) (rw (packed-four i h, ← ea, ← eb, ← ec, ← ed))
+      let l : length bs ≡ 12 = simp (length-append, length-bytes24) in
+      let all : last ≡ splice start at (packed e (take i xs) ++ bs) = more start at (sampleSize * i) (packed e (take i xs)) bs (stands .2) put n (omega arith) in
+      (omega arith, kept ∙ stands .1, rw (packed-four i (omega arith), ← ea, ← eb, ← ec, ← ed) all)
 
 packed-append : (e : Endianness) (xs ys : List ℤ) → packed e (xs ++ ys) ≡ packed e xs ++ packed e ys
 packed-append e [] ys = refl

@@ -41,7 +41,7 @@ fn put_fours(samples: &[i32], endianness: Endianness, buf: &mut [u8], at: usize,
     i
 }
 
-// The order is told before the loop, so that the compiler makes a loop for each: within one it would be looked at for every byte.
+// The order is told before the loop, so that the compiler makes a loop for each: within one it would be looked at for every word.
 fn put_ordered(
     samples: &[i32],
     endianness: Endianness,

@@ -1,15 +1,13 @@
-use Rattle.pcm.proofs.Fours.{next-four}
-use Rattle.pcm.proofs.Lift.{passed}
-use Rattle.pcm.specs.Packing.{sampleSize}
-use Rattle.pcm.specs.Sample.{low24}
-use lib.IntN.{ℤ, pos}
-use mathlib.Core.Path.{_≡_, refl, ap, sym, _∙_}
-use Prim.Native.Nat.{ℕ, _≤_, _-_, _+_, _*_}
+use mathlib.Core.Path.{_≡_, refl, sym, _∙_}
+use Prim.Native.Nat.{_≤_, _-_, _+_}
+use lib.IntN.{pos}
 use lib.ListN.{length, take, getD}
 use native.Mathlib.Omega.{arith}
 use Rattle.byteorder.specs.Splice.{splice}
 use Rattle.byteorder.proofs.Laws.{splice-nil}
 use Rattle.pcm.specs.Packing.{packed}
+use Rattle.pcm.proofs.Fours.{next-four}
+use Rattle.pcm.proofs.Lift.{passed}
 use borrow.Author.Needs.{needs}
 use Rattle.pcm.proofs.packing.put_fours.Statement.{statement}
 use Rattle.pcm.proofs.packing.put_fours.Tie as tie
@@ -93,18 +91,18 @@ loop-again c =
     let three = four .before .before in
     let two = three .before .before in
     let one = two .before .before in
-    let l = one .before .before .before .loop in
-    let a = one .before .before .before .before .before .args in
-    let xs = a .samples .now in (
-      omega arith,
-      omega (arith, put .put-twelve .kept),
-      next-four (a .endianness) xs (l .i) (a .at) (a .buf .now) (l .buf) (put .put-twelve .last .0) (one .low-bits .result) (two .low-bits2 .result) (three .low-bits3 .result) (four .low-bits4 .result) (omega arith) (omega arith)
-          (one .low-bits .ensures .0 ∙ passed (getD xs (l .i) (pos 0)) (record { sfits = one .before .low-bits-arg .given }))
-          (two .low-bits2 .ensures .0 ∙ passed (getD xs (l .i + 1) (pos 0)) (record { sfits = two .before .low-bits-arg2 .given }))
-          (three .low-bits3 .ensures .0 ∙ passed (getD xs (l .i + 2) (pos 0)) (record { sfits = three .before .low-bits-arg3 .given }))
-          (four .low-bits4 .ensures .0 ∙ passed (getD xs (l .i + 3) (pos 0)) (record { sfits = four .before .low-bits-arg4 .given }))
-          (l .inv .2) (put .put-twelve .ensures),
-    )
+    let test = one .before .before in
+    let l = test .before .loop in
+    let start = test .before .before .before in
+    let a = start .args in
+    let xs = a .samples .now in
+    next-four (a .endianness) xs (l .i) (a .k) (a .at) (a .buf .now) (l .buf) (put .put-twelve .last .0) (one .low-bits .result) (two .low-bits2 .result) (three .low-bits3 .result) (four .low-bits4 .result)
+    (start .pre .0) (start .pre .1) (l .inv) (test .loop-test .taken)
+    (one .low-bits .ensures .0 ∙ passed (getD xs (l .i) (pos 0)) (record { sfits = one .before .low-bits-arg .given }))
+    (two .low-bits2 .ensures .0 ∙ passed (getD xs (l .i + 1) (pos 0)) (record { sfits = two .before .low-bits-arg2 .given }))
+    (three .low-bits3 .ensures .0 ∙ passed (getD xs (l .i + 2) (pos 0)) (record { sfits = three .before .low-bits-arg3 .given }))
+    (four .low-bits4 .ensures .0 ∙ passed (getD xs (l .i + 3) (pos 0)) (record { sfits = four .before .low-bits-arg4 .given }))
+    (put .put-twelve .kept .0) (put .put-twelve .ensures)
 
 same-length : tie.Need-same-length Inv-loop μ-loop
 same-length c = search needs

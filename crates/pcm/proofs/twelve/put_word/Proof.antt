@@ -1,6 +1,5 @@
 use native.Mathlib.Omega.{arith}
-use lib.ListN.{length-set}
-use Rattle.pcm.proofs.Words.{stores}
+use Rattle.pcm.proofs.Words.{next-room, stored-length, stored-is}
 use borrow.Author.Needs.{needs}
 use Rattle.pcm.proofs.twelve.put_word.Statement.{statement}
 use Rattle.pcm.proofs.twelve.put_word.Tie as tie
@@ -18,7 +17,7 @@ add-buf : tie.Need-add-buf
 add-buf c = search needs
 
 slice-write-buf-2 : tie.Need-slice-write-buf-2
-slice-write-buf-2 c = simp length-set (omega arith)
+slice-write-buf-2 c = next-room (c .args .t3) (c .args .at) 0 (c .args .buf .now) (omega arith)
 
 array-read-buf-3 : tie.Need-array-read-buf-3
 array-read-buf-3 c = search needs
@@ -27,7 +26,7 @@ add-buf-2 : tie.Need-add-buf-2
 add-buf-2 c = search needs
 
 slice-write-buf-3 : tie.Need-slice-write-buf-3
-slice-write-buf-3 c = simp length-set (omega arith)
+slice-write-buf-3 c = next-room (c .args .t3) (c .args .at) 1 (c .args .buf .now) (omega arith)
 
 array-read-buf-4 : tie.Need-array-read-buf-4
 array-read-buf-4 c = search needs
@@ -36,13 +35,13 @@ add-buf-3 : tie.Need-add-buf-3
 add-buf-3 c = search needs
 
 slice-write-buf-4 : tie.Need-slice-write-buf-4
-slice-write-buf-4 c = simp length-set (omega arith)
+slice-write-buf-4 c = next-room (c .args .t3) (c .args .at) 2 (c .args .buf .now) (omega arith)
 
 same-length : tie.Need-same-length
-same-length c = search needs
+same-length c = stored-length (c .args .t3) (c .args .at) 3 (c .args .buf .now)
 
 returns : tie.Need-returns
-returns c = stores (c .args .t3) (c .args .at) 3 (c .args .buf .now) (search needs) (c .pre)
+returns c = stored-is (c .args .t3) (c .args .at) 3 (c .args .buf .now) (search needs) (c .pre)
 
 pub put-word-spec : {M : Type 1} → statement M
 put-word-spec =
