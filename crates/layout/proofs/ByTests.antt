@@ -5,9 +5,9 @@ use mathlib.Core.Bool.{Bool, true, false, cond, not, _&&_}
 use mathlib.Core.List.{List, [], _∷_}
 use Prim.Native.Nat.{ℕ, zero, suc, _/_, _%_, _^_, _<_, _≤_}
 use native.Mathlib.Omega.{arith}
-use lib.Dec.{eqb, ltb}
+use lib.Dec.{eqb, leb, ltb}
 use lib.ListN.{drop}
-use borrow.Author.Tests.{ne-eqb, le-ltb, ltb-true, ltb-false}
+use borrow.Author.Tests.{ne-eqb, le-ltb, le-leb, lt-leb, ltb-true, ltb-false}
 use Rattle.layout.specs.Labels as label
 use Rattle.layout.specs.Known.{among, knownLabel}
 use Rattle.layout.proofs.Every.{both}
@@ -22,7 +22,7 @@ apart = label.UseCoordinates ∷ label.Unknown ∷ []
 abbrev pub byTests : ℕ → Bool
 byTests n =
     cond (ltb n 64) (hasBit 0xA_1FFE_0007_FFFF n)
-    (cond (eqb (n / 64) 3) (hasBit 0xFF00 n) (cond (eqb (n / 64) 4) (hasBit 0x3_6000_0000_0000 n) (among n apart)))
+    (cond (leb label.AmbisonicW n && leb n label.XYY) true (cond (eqb (n / 64) 4) (hasBit 0x3_6000_0000_0000 n) (among n apart)))
 
 -- a test that is computed for every number below k
 abbrev below : ℕ → (ℕ → Bool) → Bool
@@ -72,7 +72,8 @@ unfolding knownLabel
 above n h =
     rw (
       le-ltb n 64 (omega arith),
-      ne-eqb (n / 64) 3 (λ e. let z : ⊥ = omega arith in z),
+      le-leb label.AmbisonicW n (omega arith),
+      lt-leb n label.XYY (omega arith),
       ne-eqb (n / 64) 4 (λ e. let z : ⊥ = omega arith in z),
       in-none n (drop 1 label.labels) refl h,
       ne-eqb n label.UseCoordinates (λ e. let z : ⊥ = omega arith in z),

@@ -1,11 +1,12 @@
 // Which numbers are labels and which are tags. A data call asks it of the tag of its record, or of each of its labels. So no list is
-// gone through: nearly every label has a bit in one of three words, and the tags stand in a `match`, of which a compiler makes a few
-// comparisons.
+// gone through: most labels have a bit in one of two words, and the tags stand in a `match`, of which a compiler makes a few comparisons.
 use crate::label;
 use crate::tag;
 ghost use mathlib.Core.Path.{_≡_};
+ghost use mathlib.Core.Bool.{_&&_};
 ghost use Prim.Native.Nat.{_/_, _%_, _^_};
-ghost use lib.Dec.{eqb};
+ghost use lib.Dec.{eqb, leb};
+ghost use Rattle.layout.specs.Labels.{AmbisonicW, XYY};
 ghost use Rattle.layout.specs.Known.{knownLabel, knownTag, allKnown};
 
 // The labels from 0 to 63, a bit for each.
@@ -43,16 +44,6 @@ const LOW_LABELS: u64 = 1 << label::UNUSED
     | 1 << label::LEFT_TOP_MIDDLE
     | 1 << label::RIGHT_TOP_MIDDLE;
 
-// From 192 to 255.
-const MIDDLE_LABELS: u64 = 1 << (label::AMBISONIC_W % 64)
-    | 1 << (label::AMBISONIC_X % 64)
-    | 1 << (label::AMBISONIC_Y % 64)
-    | 1 << (label::AMBISONIC_Z % 64)
-    | 1 << (label::MS_MID % 64)
-    | 1 << (label::MS_SIDE % 64)
-    | 1 << (label::XYX % 64)
-    | 1 << (label::XYY % 64);
-
 // From 256 to 319.
 const HIGH_LABELS: u64 = 1 << (label::HEADPHONES_LEFT % 64)
     | 1 << (label::HEADPHONES_RIGHT % 64)
@@ -66,14 +57,31 @@ fn has_bit(word: u64, n: u32) -> bool
     (word >> (n % 64)) % 2 == 1
 }
 
+// The labels of coincident microphones: ambisonic, mid and side, X and Y. Their numbers are one run, of which a compiler makes one comparison.
+fn is_coincident(n: u32) -> bool
+    ensures { λ r. ⌜ r ≡ leb AmbisonicW n && leb n XYY ⌝ }
+{
+    match n {
+        label::AMBISONIC_W
+        | label::AMBISONIC_X
+        | label::AMBISONIC_Y
+        | label::AMBISONIC_Z
+        | label::MS_MID
+        | label::MS_SIDE
+        | label::XYX
+        | label::XYY => true,
+        _ => false,
+    }
+}
+
 pub fn known_label(n: u32) -> bool
     ensures { λ r. ⌜ r ≡ knownLabel n ⌝ }
 {
     if n < 64 {
         return has_bit(LOW_LABELS, n);
     }
-    if n / 64 == label::AMBISONIC_W / 64 {
-        return has_bit(MIDDLE_LABELS, n);
+    if is_coincident(n) {
+        return true;
     }
     if n / 64 == label::HEADPHONES_LEFT / 64 {
         return has_bit(HIGH_LABELS, n);

@@ -17,38 +17,41 @@ returns c =
     let n = c .before .before .args .n in
     let is : byTests n ≡ c .has-bit .result = rw (lt-ltb n 64 (omega arith)) (sym (c .has-bit .ensures)) in sym is ∙ by-tests n
 
-has-bit-requires-2 : tie.Need-has-bit-requires-2
-has-bit-requires-2 c κs = search needs
+is-coincident-requires : tie.Need-is-coincident-requires
+is-coincident-requires c κs = search needs
 
 returns-2 : tie.Need-returns-2
 returns-2 c =
     let n = c .before .before .before .args .n in
-    let is : byTests n ≡ c .has-bit2 .result =
-    rw (le-ltb n 64 (omega arith), eq-eqb (n / 64) 3 (c .before .if2 .taken)) (sym (c .has-bit2 .ensures)) in sym is ∙ by-tests n
+    let in-run = sym (c .before .is-coincident .ensures) ∙ c .if2 .taken in
+    let is : byTests n ≡ true = rw (le-ltb n 64 (omega arith), in-run) in sym is ∙ by-tests n
 
-has-bit-requires-3 : tie.Need-has-bit-requires-3
-has-bit-requires-3 c κs = search needs
+has-bit-requires-2 : tie.Need-has-bit-requires-2
+has-bit-requires-2 c κs = search needs
 
 returns-3 : tie.Need-returns-3
 returns-3 c =
     let two = c .before .before in
-    let n = two .before .before .args .n in
-    let is : byTests n ≡ c .has-bit3 .result =
-    rw (le-ltb n 64 (omega arith), ne-eqb (n / 64) 3 (two .if2 .left), eq-eqb (n / 64) 4 (c .before .if3 .taken)) (sym (c .has-bit3 .ensures)) in sym is ∙ by-tests n
+    let n = two .before .before .before .args .n in
+    let out = sym (two .before .is-coincident .ensures) ∙ two .if2 .left in
+    let is : byTests n ≡ c .has-bit2 .result =
+    rw (le-ltb n 64 (omega arith), out, eq-eqb (n / 64) 4 (c .before .if3 .taken)) (sym (c .has-bit2 .ensures)) in sym is ∙ by-tests n
 
 returns-4 : tie.Need-returns-4
 returns-4 c =
     let three = c .before in
-    let n = three .before .before .before .args .n in
+    let n = three .before .before .before .before .args .n in
+    let out = sym (three .before .before .is-coincident .ensures) ∙ three .before .if2 .left in
     let is : byTests n ≡ true =
-    rw (le-ltb n 64 (omega arith), ne-eqb (n / 64) 3 (three .before .if2 .left), ne-eqb (n / 64) 4 (three .if3 .left), one-of n apart (c .match .keys1)) in sym is ∙ by-tests n
+    rw (le-ltb n 64 (omega arith), out, ne-eqb (n / 64) 4 (three .if3 .left), one-of n apart (c .match .keys1)) in sym is ∙ by-tests n
 
 returns-5 : tie.Need-returns-5
 returns-5 c =
     let three = c .before in
-    let n = three .before .before .before .args .n in
+    let n = three .before .before .before .before .args .n in
+    let out = sym (three .before .before .is-coincident .ensures) ∙ three .before .if2 .left in
     let is : byTests n ≡ false =
-    rw (le-ltb n 64 (omega arith), ne-eqb (n / 64) 3 (three .before .if2 .left), ne-eqb (n / 64) 4 (three .if3 .left), none-of n apart (c .match .rest .1)) in sym is ∙ by-tests n
+    rw (le-ltb n 64 (omega arith), out, ne-eqb (n / 64) 4 (three .if3 .left), none-of n apart (c .match .rest .1)) in sym is ∙ by-tests n
 
 pub known-label-spec : {M : Type 1} → statement M
 known-label-spec =
@@ -56,9 +59,9 @@ known-label-spec =
     (tie.spec
     has-bit-requires
     returns
-    has-bit-requires-2
+    is-coincident-requires
     returns-2
-    has-bit-requires-3
+    has-bit-requires-2
     returns-3
     returns-4
     returns-5)
