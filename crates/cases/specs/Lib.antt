@@ -1,3 +1,4 @@
 pub mod Number
 pub mod List
 pub mod Frame
+pub mod Script

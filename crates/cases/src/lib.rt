@@ -3,3 +3,4 @@
 pub mod frame;
 pub mod list;
 pub mod number;
+pub mod script;

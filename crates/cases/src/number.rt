@@ -1,10 +1,11 @@
 // Numbers of a case, and positions in it.
 use byteorder::read::be_u32;
 use format::Endianness;
+use format::PCMDataType;
 ghost use mathlib.Core.Path.{_≡_};
 ghost use lib.ListN.{getD};
 ghost use Rattle.byteorder.specs.Big.{bigAt};
-ghost use Rattle.cases.specs.Number.{further, orderOf};
+ghost use Rattle.cases.specs.Number.{further, orderOf, typeOf};
 
 pub fn byte(s: &[u8], p: usize) -> u32
     ensures { λ r. ⌜ r ≡ getD (now (s .entry)) p 0 ⌝ }
@@ -38,4 +39,13 @@ pub fn order(little: u32) -> Endianness
         return Endianness::LittleEndian;
     }
     Endianness::BigEndian
+}
+
+pub fn data_type(float: u32) -> PCMDataType
+    ensures { λ r. ⌜ r ≡ typeOf float ⌝ }
+{
+    if float == 1 {
+        return PCMDataType::Float;
+    }
+    PCMDataType::SignedInteger
 }

@@ -11,15 +11,26 @@ use cases::list::labels_at;
 use cases::list::samples_at;
 use cases::number::byte;
 use cases::number::count;
+use cases::number::data_type;
 use cases::number::order;
 use cases::number::plus;
-use format::PCMDataType;
+use cases::script::CONFIGURE;
+use cases::script::CUT;
+use cases::script::DATA;
+use cases::script::FINISH;
+use cases::script::FORMAT;
+use cases::script::HEADER;
+use cases::script::INNER;
+use cases::script::LABELS;
+use cases::script::RESUME;
+use cases::script::RESUME_FROM;
+use cases::script::SAMPLES;
+use cases::script::TAG;
+use cases::script::bytes_at;
 use writer::CAFWriter;
 use writer::Counted;
 use writer::Resumed;
 use writer::Wrote;
-ghost use Prim.Native.Nat.{_≤_};
-ghost use lib.ListN.{length};
 
 // What stands after a call: its number and its count, the writer and its file.
 pub(crate) struct Done {
@@ -29,97 +40,14 @@ pub(crate) struct Done {
     pub file_len: usize,
 }
 
-// The kinds of call, as compare/README.md has them.
-const FORMAT: u32 = 1;
-
-const TAG: u32 = 2;
-
-const LABELS: u32 = 3;
-
-const CONFIGURE: u32 = 4;
-
-const HEADER: u32 = 5;
-
-const DATA: u32 = 6;
-
-const SAMPLES: u32 = 7;
-
-const FINISH: u32 = 8;
-
-const RESUME: u32 = 9;
-
-const RESUME_FROM: u32 = 10;
-
-const CUT: u32 = 11;
-
-// Where the call that is cut stands after its kind: after the four bytes of n.
-const INNER: usize = 4;
-
 // The number for bytes that are no call. No answer of the Rust has it.
 const NO_CALL: u32 = 255;
-
-// Where a list of numbers ends whose count stands at p.
-fn after_numbers(s: &[u8], p: usize) -> usize {
-    plus(p, 4 + be_u32(s, p) as usize * 4)
-}
-
-// Where a call of this kind ends, whose bytes start at p.
-fn after_call(kind: u32, s: &[u8], p: usize) -> usize {
-    match kind {
-        FORMAT => plus(p, 18),
-        TAG => plus(p, 4),
-        LABELS => after_numbers(s, plus(p, 4)),
-        CONFIGURE => after_numbers(s, plus(p, 16)),
-        SAMPLES => after_numbers(s, p),
-        DATA | RESUME_FROM => plus(plus(p, 4), count(s, p)),
-        _ => p,
-    }
-}
-
-// Where the call at p ends and its answer starts.
-pub(crate) fn end_of(s: &[u8], p: usize) -> usize {
-    let kind = byte(s, p);
-    let next = plus(p, 1);
-    if kind == CUT {
-        let inner = plus(next, INNER);
-        return after_call(byte(s, inner), s, plus(inner, 1));
-    }
-    after_call(kind, s, next)
-}
-
-// A run of bytes in a case.
-struct Run {
-    start: usize,
-    end: usize,
-}
-
-// The bytes whose length stands at p; none where the case does not hold them.
-fn bytes_at(s: &[u8], p: usize) -> Run
-    ensures { λ r. ⌜ (r .start ≤ r .end) × (r .end ≤ length (now (s .entry))) ⌝ }
-{
-    let start = plus(p, 4);
-    let end = plus(start, count(s, p));
-    if s.len() < end {
-        return Run { start: 0, end: 0 };
-    }
-    Run {
-        start: start,
-        end: end,
-    }
-}
 
 fn no_call(writer: CAFWriter) -> Wrote {
     Wrote {
         number: NO_CALL,
         writer: writer,
     }
-}
-
-fn data_type(float: u32) -> PCMDataType {
-    if float == 1 {
-        return PCMDataType::Float;
-    }
-    PCMDataType::SignedInteger
 }
 
 fn set_format(s: &[u8], p: usize, writer: CAFWriter) -> Wrote {

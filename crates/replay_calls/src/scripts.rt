@@ -1,11 +1,11 @@
 // Cases of writing: a script of calls on one writer, the answer of each, and the file that they leave.
 use crate::calls::Done;
 use crate::calls::call;
-use crate::calls::end_of;
 use cases::list::starts_with;
 use cases::number::byte;
 use cases::number::count;
 use cases::number::plus;
+use cases::script::end_of;
 use writer::CAFWriter;
 
 // Room for the longest file of a case.
