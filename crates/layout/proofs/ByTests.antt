@@ -1,6 +1,6 @@
 -- The labels by the tests of the code: the same as by the list of 47. Below 320 it is computed, number by number; from there on
 -- stands one label, the first of the list.
-use mathlib.Core.Path.{_≡_, refl}
+use mathlib.Core.Path.{_≡_, refl, sym, _∙_}
 use mathlib.Core.Bool.{Bool, true, false, cond, not, _&&_}
 use mathlib.Core.List.{List, [], _∷_}
 use Prim.Native.Nat.{ℕ, zero, suc, _/_, _%_, _^_, _<_, _≤_}
@@ -85,3 +85,8 @@ by-tests n = go (ltb n least) refl
     go : (b : Bool) → ltb n least ≡ b → byTests n ≡ knownLabel n
     go true e = same-is (byTests n) (knownLabel n) (each-below (λ m. same (byTests m) (knownLabel m)) least n computed (ltb-true n least e))
     go false e = above n (ltb-false n least e)
+
+-- past the words and the run
+pub only-apart : (n : ℕ) → 64 ≤ n → (leb label.AmbisonicW n && leb n label.XYY) ≡ false → (n / 64 ≡ 4 → ⊥) → among n apart ≡ knownLabel n
+only-apart n from out other =
+    let is : byTests n ≡ among n apart = rw (le-ltb n 64 from, out, ne-eqb (n / 64) 4 other) in sym is ∙ by-tests n

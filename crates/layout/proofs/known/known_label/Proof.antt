@@ -1,11 +1,11 @@
 use Prim.Native.Nat.{_/_}
 use mathlib.Core.Path.{_≡_, sym, _∙_}
-use mathlib.Core.Bool.{true, false}
+use mathlib.Core.Bool.{true}
 use native.Mathlib.Omega.{arith}
 use borrow.Author.Needs.{needs}
-use borrow.Author.Tests.{lt-ltb, le-ltb, eq-eqb, ne-eqb}
+use borrow.Author.Tests.{lt-ltb, le-ltb, eq-eqb}
 use Rattle.layout.proofs.Listed.{one-of, none-of}
-use Rattle.layout.proofs.ByTests.{apart, byTests, by-tests}
+use Rattle.layout.proofs.ByTests.{apart, byTests, by-tests, only-apart}
 use Rattle.layout.proofs.known.known_label.Statement.{statement}
 use Rattle.layout.proofs.known.known_label.Tie as tie
 
@@ -42,16 +42,14 @@ returns-4 c =
     let three = c .before in
     let n = three .before .before .before .before .args .n in
     let out = sym (three .before .before .is-coincident .ensures) ∙ three .before .if2 .left in
-    let is : byTests n ≡ true =
-    rw (le-ltb n 64 (omega arith), out, ne-eqb (n / 64) 4 (three .if3 .left), one-of n apart (c .match .keys1)) in sym is ∙ by-tests n
+    sym (one-of n apart (c .match .keys1)) ∙ only-apart n (omega arith) out (three .if3 .left)
 
 returns-5 : tie.Need-returns-5
 returns-5 c =
     let three = c .before in
     let n = three .before .before .before .before .args .n in
     let out = sym (three .before .before .is-coincident .ensures) ∙ three .before .if2 .left in
-    let is : byTests n ≡ false =
-    rw (le-ltb n 64 (omega arith), out, ne-eqb (n / 64) 4 (three .if3 .left), none-of n apart (c .match .rest .1)) in sym is ∙ by-tests n
+    sym (none-of n apart (c .match .rest .1)) ∙ only-apart n (omega arith) out (three .if3 .left)
 
 pub known-label-spec : {M : Type 1} → statement M
 known-label-spec =
