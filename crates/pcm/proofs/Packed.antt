@@ -1,13 +1,11 @@
--- Packed samples: how many bytes they are, the first of them, and the stores of one sample.
+-- Packed samples: how many bytes they are, the first of them, and one sample more.
 use mathlib.Core.Path.{_≡_, refl, ap, sym, _∙_}
 use mathlib.Core.List.{List, [], _∷_, _++_}
 use Prim.Native.Nat.{ℕ, zero, suc, _+_, _*_, _<_, _≤_}
 use native.Mathlib.Omega.{arith}
-use native.Mathlib.Numerals.{add-one, add-two}
 use lib.IntN.{ℤ, pos}
-use lib.ListN.{length, take, drop, getD, set, length-append}
-use lib.Seq.{take-append-le, take-all, sets-eq, take-add, take-append-add, drop-cons, drop-append-add}
-use Rattle.byteorder.specs.Splice.{splice}
+use lib.ListN.{length, take, drop, getD, length-append}
+use lib.Seq.{take-append-le, take-all, take-add, take-append-add, drop-cons, drop-append-add}
 use Rattle.format.specs.declared.Endianness.{Endianness}
 use Rattle.format.specs.declared.Endianness.the-variants.{BigEndian, LittleEndian}
 use Rattle.pcm.specs.Sample.{low24, bytes24}
@@ -49,12 +47,6 @@ take-part e xs k r h l =
     let d : drop (sampleSize * k) (packed e xs) ≡ b ++ packed e (drop (suc k) xs) = drop-packed e k xs ∙ ap (λ (ys : List ℤ). packed e ys) (drop-cons xs k (pos 0) h) in
     let t : take r (b ++ packed e (drop (suc k) xs)) ≡ take r b = take-append-le r b (packed e (drop (suc k) xs)) (omega (arith, length-bytes24 e (low24 (getD xs k (pos 0))))) in
     rw (take-add, take-packed e k xs, d, t)
-
--- three stores are a splice of a sample's bytes
-pub three : (e : Endianness) (u : ℕ) (d : List ℕ) (at : ℕ) → at + sampleSize ≤ length d →
-    set (set (set d at (getD (bytes24 e u) 0 0)) (at + 1) (getD (bytes24 e u) 1 0)) (at + 2) (getD (bytes24 e u) 2 0) ≡ splice d at (bytes24 e u)
-three BigEndian u d at h = rw (add-one, add-two) (sets-eq (bytes24 BigEndian u) d at h)
-three LittleEndian u d at h = rw (add-one, add-two) (sets-eq (bytes24 LittleEndian u) d at h)
 
 -- the bytes of one sample more
 pub packed-suc : (e : Endianness) (xs : List ℤ) (i : ℕ) → i < length xs → packed e (take (suc i) xs) ≡ packed e (take i xs) ++ bytes24 e (low24 (getD xs i (pos 0)))

@@ -1,11 +1,9 @@
--- Four samples as a word of eight bytes and one of four, and the stores of a word.
+-- Four samples as a word of eight bytes and one of four.
 use mathlib.Core.Path.{_≡_, refl, ap, sym, _∙_}
-use mathlib.Core.List.{List, [], _∷_, _++_, reverse}
-use Prim.Native.Nat.{ℕ, zero, suc, _+_, _*_, _/_, _%_, _^_, _≤_, _<_}
-use native.Mathlib.Nat.{add-zero, add-suc}
+use mathlib.Core.List.{List, _++_, reverse}
+use Prim.Native.Nat.{ℕ, _+_, _*_, _/_, _%_, _^_, _≤_, _<_}
 use native.Mathlib.Omega.{arith}
-use lib.ListN.{length, take, drop, getD, set, length-set, drop-of-length-le}
-use lib.Seq.{sets, sets-eq, drop-cons}
+use lib.ListN.{length, take, drop}
 use Rattle.byteorder.specs.Big.{bigBytes}
 use Rattle.byteorder.specs.Splice.{splice}
 use Rattle.byteorder.proofs.Laws.{more}
@@ -13,34 +11,6 @@ use Rattle.format.specs.declared.Endianness.{Endianness}
 use Rattle.format.specs.declared.Endianness.the-variants.{BigEndian, LittleEndian}
 use Rattle.pcm.specs.Sample.{bytes24}
 use Rattle.pcm.proofs.Joined.{joined, split}
-
--- the first element of a word stored, and then n more, one by one
-module _ (w : List ℕ) (at : ℕ) where
-  abbrev from : ℕ → ℕ → List ℕ → List ℕ
-  from k zero d = d
-  from k (suc n) d = from (suc k) n (set d (at + k) (getD w k 0))
-
-  abbrev stored : ℕ → List ℕ → List ℕ
-  stored n d = from 1 n (set d at (getD w 0 0))
-
-  length-from : (n k : ℕ) (d : List ℕ) → length (from k n d) ≡ length d
-  length-from zero k d = refl
-  length-from (suc n) k d = length-from n (suc k) (set d (at + k) (getD w k 0)) ∙ length-set d (at + k) (getD w k 0)
-
-  from-is : (n k : ℕ) (d : List ℕ) → k + n ≡ length w → from k n d ≡ sets d (at + k) (drop k w)
-  from-is zero k d l = rw (drop-of-length-le w {i = k} (omega arith))
-  from-is (suc n) k d l = from-is n (suc k) (set d (at + k) (getD w k 0)) (omega arith) ∙ rw (add-suc, drop-cons w k 0 (omega arith))
-
-  pub stored-length : (n : ℕ) (d : List ℕ) → length (stored n d) ≡ length d
-  stored-length n d = length-from n 1 (set d at (getD w 0 0)) ∙ length-set d at (getD w 0 0)
-
-  -- the next one has room
-  pub next-room : (n : ℕ) (d : List ℕ) → at + suc n < length d → at + suc n < length (stored n d)
-  next-room n d h = rw (stored-length n d) h
-
-  -- all of them are a splice
-  pub stored-is : (n : ℕ) (d : List ℕ) → length w ≡ suc n → at + suc n ≤ length d → stored n d ≡ splice d at w
-  stored-is n d l h = ap (λ (p : ℕ). from 1 n (set d p (getD w 0 0))) (sym (add-zero at)) ∙ from-is (suc n) 0 d (omega arith) ∙ rw add-zero (sets-eq w d at (omega arith))
 
 -- the word of eight in either order
 pub big-eight-is : (a b c : ℕ) → b < 2 ^ 24 → c < 2 ^ 24 → bigBytes 8 (a * 256 ^ 5 + b * 256 ^ 2 + c / 256) ≡ bytes24 BigEndian a ++ (bytes24 BigEndian b ++ take 2 (bytes24 BigEndian c))

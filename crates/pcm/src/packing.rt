@@ -1,4 +1,5 @@
 // Samples packed into a lent buffer.
+use crate::put::put_bytes;
 use crate::sample::SAMPLE_SIZE;
 use crate::sample::low_bits;
 use crate::sample::sample_bytes;
@@ -13,16 +14,6 @@ ghost use lib.ListN.{length, take};
 ghost use Rattle.byteorder.specs.Splice.{splice, storeCount, storeFirst};
 ghost use Rattle.pcm.specs.Sample.{low24, bytes24};
 ghost use Rattle.pcm.specs.Packing.{sampleSize, packed, packNumber, packInto};
-
-fn put_sample(buf: &mut [u8], at: usize, x: i32, endianness: Endianness)
-    requires { ⌜ at + sampleSize ≤ length (now buf) ⌝ }
-    ensures { λ _. ⌜ now (buf .exit) ≡ splice (now (buf .entry)) at (bytes24 endianness (low24 x)) ⌝ }
-{
-    let b = sample_bytes(x, endianness);
-    buf[at] = b[0];
-    buf[at + 1] = b[1];
-    buf[at + 2] = b[2];
-}
 
 // Whole samples, four at a time: how many of the first k there are.
 fn put_fours(samples: &[i32], endianness: Endianness, buf: &mut [u8], at: usize, k: usize) -> usize
@@ -65,7 +56,8 @@ fn put_each(samples: &[i32], endianness: Endianness, buf: &mut [u8], at: usize, 
 {
     let mut i: usize = 0;
     while i < k {
-        put_sample(buf, at + SAMPLE_SIZE * i, samples[i], endianness);
+        let b = sample_bytes(samples[i], endianness);
+        put_bytes(buf, at + SAMPLE_SIZE * i, &b);
         i += 1;
     }
 }

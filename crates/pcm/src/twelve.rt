@@ -1,5 +1,6 @@
 // Four samples as twelve bytes, stored as a word of eight and one of four. A word is made as a number first: its bytes from the low end
 // are then one store for a compiler, and the stores of four samples are two.
+use crate::put::put_bytes;
 use byteorder::read::u32_of;
 use byteorder::read::u64_of;
 use format::Endianness;
@@ -78,31 +79,6 @@ fn four_of(c: u32, d: u32, endianness: Endianness) -> [u8; 4]
     }
 }
 
-// Bytes by value: a compiler stores them at once.
-fn put_long(buf: &mut [u8], at: usize, long: [u8; 8])
-    requires { ⌜ at + 8 ≤ length (now buf) ⌝ }
-    ensures { λ _. ⌜ now (buf .exit) ≡ splice (now (buf .entry)) at long ⌝ }
-{
-    buf[at] = long[0];
-    buf[at + 1] = long[1];
-    buf[at + 2] = long[2];
-    buf[at + 3] = long[3];
-    buf[at + 4] = long[4];
-    buf[at + 5] = long[5];
-    buf[at + 6] = long[6];
-    buf[at + 7] = long[7];
-}
-
-fn put_word(buf: &mut [u8], at: usize, word: [u8; 4])
-    requires { ⌜ at + 4 ≤ length (now buf) ⌝ }
-    ensures { λ _. ⌜ now (buf .exit) ≡ splice (now (buf .entry)) at word ⌝ }
-{
-    buf[at] = word[0];
-    buf[at + 1] = word[1];
-    buf[at + 2] = word[2];
-    buf[at + 3] = word[3];
-}
-
 // The bytes of four samples, given as their low 24 bits.
 pub(crate) fn put_twelve(
     buf: &mut [u8],
@@ -116,6 +92,6 @@ pub(crate) fn put_twelve(
     requires { ⌜ (at + 12 ≤ length (now buf)) × (a < 2 ^ 24) × (b < 2 ^ 24) × (c < 2 ^ 24) × (d < 2 ^ 24) ⌝ }
     ensures { λ _. ⌜ now (buf .exit) ≡ splice (now (buf .entry)) at (bytes24 endianness a ++ (bytes24 endianness b ++ (bytes24 endianness c ++ bytes24 endianness d))) ⌝ }
 {
-    put_long(buf, at, eight_of(a, b, c, endianness));
-    put_word(buf, at + 8, four_of(c, d, endianness));
+    put_bytes(buf, at, &eight_of(a, b, c, endianness));
+    put_bytes(buf, at + 8, &four_of(c, d, endianness));
 }
