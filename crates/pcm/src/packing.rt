@@ -15,38 +15,47 @@ ghost use Rattle.byteorder.specs.Splice.{splice, storeCount, storeFirst};
 ghost use Rattle.pcm.specs.Sample.{low24, bytes24};
 ghost use Rattle.pcm.specs.Packing.{sampleSize, packed, packNumber, packInto};
 
-// Whole samples, four at a time: how many of the first k there are.
-fn put_fours(samples: &[i32], endianness: Endianness, buf: &mut [u8], at: usize, k: usize) -> usize
+// The first four samples.
+fn put_four(samples: &[i32], endianness: Endianness, buf: &mut [u8], at: usize)
+    requires { ⌜ (4 ≤ length (now samples)) × (at + 12 ≤ length (now buf)) ⌝ }
+    ensures { λ _. ⌜ now (buf .exit) ≡ splice (now (buf .entry)) at (packed endianness (take 4 (now (samples .entry)))) ⌝ }
+{
+    let a = low_bits(samples[0]);
+    let b = low_bits(samples[1]);
+    let c = low_bits(samples[2]);
+    let d = low_bits(samples[3]);
+    put_twelve(buf, at, a, b, c, d, endianness);
+}
+
+// The first eight samples. The order is told once for all of them, so that a compiler makes a loop for each where this is in one.
+fn put_eight(samples: &[i32], endianness: Endianness, buf: &mut [u8], at: usize)
+    requires { ⌜ (8 ≤ length (now samples)) × (at + 24 ≤ length (now buf)) ⌝ }
+    ensures { λ _. ⌜ now (buf .exit) ≡ splice (now (buf .entry)) at (packed endianness (take 8 (now (samples .entry)))) ⌝ }
+{
+    match endianness {
+        Endianness::BigEndian => {
+            put_four(&samples[0..4], Endianness::BigEndian, buf, at);
+            put_four(&samples[4..8], Endianness::BigEndian, buf, at + 12);
+        }
+        Endianness::LittleEndian => {
+            put_four(&samples[0..4], Endianness::LittleEndian, buf, at);
+            put_four(&samples[4..8], Endianness::LittleEndian, buf, at + 12);
+        }
+    }
+}
+
+// Whole samples, eight a turn: how many of the first k there are.
+fn put_eights(samples: &[i32], endianness: Endianness, buf: &mut [u8], at: usize, k: usize) -> usize
     requires { ⌜ (k ≤ length (now samples)) × (at + sampleSize * k ≤ length (now buf)) ⌝ }
     ensures { λ n. ⌜ (n ≤ k) × (now (buf .exit) ≡ splice (now (buf .entry)) at (packed endianness (take n (now (samples .entry))))) ⌝ }
 {
     let mut i: usize = 0;
-    while 4 <= k - i {
-        let a = low_bits(samples[i]);
-        let b = low_bits(samples[i + 1]);
-        let c = low_bits(samples[i + 2]);
-        let d = low_bits(samples[i + 3]);
-        put_twelve(buf, at + SAMPLE_SIZE * i, a, b, c, d, endianness);
-        i += 4;
+    while 8 <= k - i {
+        let end = i + 8;
+        put_eight(&samples[i..end], endianness, buf, at + SAMPLE_SIZE * i);
+        i = end;
     }
     i
-}
-
-// The order is told before the loop, so that the compiler makes a loop for each: within one it would be looked at for every word.
-fn put_ordered(
-    samples: &[i32],
-    endianness: Endianness,
-    buf: &mut [u8],
-    at: usize,
-    k: usize,
-) -> usize
-    requires { ⌜ (k ≤ length (now samples)) × (at + sampleSize * k ≤ length (now buf)) ⌝ }
-    ensures { λ n. ⌜ (n ≤ k) × (now (buf .exit) ≡ splice (now (buf .entry)) at (packed endianness (take n (now (samples .entry))))) ⌝ }
-{
-    match endianness {
-        Endianness::BigEndian => put_fours(samples, Endianness::BigEndian, buf, at, k),
-        Endianness::LittleEndian => put_fours(samples, Endianness::LittleEndian, buf, at, k),
-    }
 }
 
 // The first k samples, one at a time.
@@ -67,7 +76,7 @@ fn put_samples(samples: &[i32], endianness: Endianness, buf: &mut [u8], at: usiz
     requires { ⌜ (k ≤ length (now samples)) × (at + sampleSize * k ≤ length (now buf)) ⌝ }
     ensures { λ _. ⌜ now (buf .exit) ≡ splice (now (buf .entry)) at (packed endianness (take k (now (samples .entry)))) ⌝ }
 {
-    let n = put_ordered(samples, endianness, buf, at, k);
+    let n = put_eights(samples, endianness, buf, at, k);
     put_each(&samples[n..], endianness, buf, at + SAMPLE_SIZE * n, k - n);
 }
 

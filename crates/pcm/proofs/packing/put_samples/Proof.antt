@@ -12,8 +12,8 @@ use borrow.Author.Needs.{needs}
 use Rattle.pcm.proofs.packing.put_samples.Statement.{statement}
 use Rattle.pcm.proofs.packing.put_samples.Tie as tie
 
-put-ordered-requires : tie.Need-put-ordered-requires
-put-ordered-requires c κs = search needs
+put-eights-requires : tie.Need-put-eights-requires
+put-eights-requires c κs = search needs
 
 mul-put-each : tie.Need-mul-put-each
 mul-put-each c = search needs
@@ -45,16 +45,16 @@ same-length c = search needs
 returns : tie.Need-returns
 returns c = let a = c .before .before .before .before .before .before .before .before .before .before .args in
     let xs = a .samples .now in
-    let n = c .before .before .before .before .before .before .before .put-ordered .result in
-    let buf = c .before .before .before .before .before .before .before .put-ordered .last .1 .1 .0 in
-    rest-put (a .endianness) xs n (a .k) (a .at) (a .buf .now) buf (c .before .before .put-each .last .1 .1 .0) (c .before .before .before .before .before .before .before .put-ordered .ensures .0) (c .before .before .before .before .before .before .before .before .before .before .pre .0) (c .before .before .before .before .before .before .before .before .before .before .pre .1) (c .before .before .before .before .before .before .before .put-ordered .ensures .1)
+    let n = c .before .before .before .before .before .before .before .put-eights .result in
+    let buf = c .before .before .before .before .before .before .before .put-eights .last .1 .1 .0 in
+    rest-put (a .endianness) xs n (a .k) (a .at) (a .buf .now) buf (c .before .before .put-each .last .1 .1 .0) (c .before .before .before .before .before .before .before .put-eights .ensures .0) (c .before .before .before .before .before .before .before .before .before .before .pre .0) (c .before .before .before .before .before .before .before .before .before .before .pre .1) (c .before .before .before .before .before .before .before .put-eights .ensures .1)
     (c .before .before .put-each .ensures ∙ ap (λ (ys : List ℤ). splice buf (a .at + sampleSize * n) (packed (a .endianness) ys)) (take-take (a .k - n) (length xs - n) (drop n xs) (omega arith)))
 
 pub put-samples-spec : {M : Type 1} → statement M
 put-samples-spec =
     tie.close
     (tie.spec
-    put-ordered-requires
+    put-eights-requires
     mul-put-each
     sub-put-each
     part-put-each-start
