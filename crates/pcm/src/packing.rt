@@ -27,7 +27,7 @@ fn put_four(samples: &[i32], endianness: Endianness, buf: &mut [u8], at: usize)
     put_twelve(buf, at, a, b, c, d, endianness);
 }
 
-// The first eight samples. The order is told once for all of them, so that a compiler makes a loop for each where this is in one.
+// The first eight samples. The order is asked once for all of them: of the loop below a compiler then makes two, one for each order.
 fn put_eight(samples: &[i32], endianness: Endianness, buf: &mut [u8], at: usize)
     requires { ⌜ (8 ≤ length (now samples)) × (at + 24 ≤ length (now buf)) ⌝ }
     ensures { λ _. ⌜ now (buf .exit) ≡ splice (now (buf .entry)) at (packed endianness (take 8 (now (samples .entry)))) ⌝ }
