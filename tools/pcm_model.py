@@ -66,6 +66,12 @@ def lines():
     for x, order in ((1, BIG), (-8388608, BIG), (8388608, BIG), (1, LITTLE), (-1, BIG), (8388607, BIG), (-8388609, LITTLE)):
         yield pack_line([x], order, 4)
         yield unpack_line(packed([x], order), order, 2)
+    # two turns of the code's eight and three more
+    many = [1, -1, 0, 255, -256, 65535, -65536, 8388607, -8388608, 8388608, -8388609, 16777215, -16777216,
+            2147483647, -2147483647, 1193046, -1193046, 66051, -66051]
+    for order in (BIG, LITTLE):
+        yield pack_line(many, order, 57)
+        yield unpack_line(packed(many, order), order, 20)
     # room one short
     yield pack_line([1, 2], BIG, 5)
     yield unpack_line(bytes([0, 0, 1, 0, 0, 2]), BIG, 1)

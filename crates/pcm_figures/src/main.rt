@@ -57,6 +57,35 @@ fn both_ways(x: i32, endianness: Endianness) {
     unpack_into(&bytes[..3], endianness, &mut back);
 }
 
+// Two turns of eight samples and three more, there and back.
+fn many(endianness: Endianness) {
+    let xs = [
+        1,
+        -1,
+        0,
+        255,
+        -256,
+        65535,
+        -65536,
+        8388607,
+        -8388608,
+        8388608,
+        -8388609,
+        16777215,
+        -16777216,
+        2147483647,
+        -2147483647,
+        1193046,
+        -1193046,
+        66051,
+        -66051,
+    ];
+    let mut bytes = [BYTE; 57];
+    pack_into(&xs, endianness, &mut bytes);
+    let mut back = [SAMPLE; 20];
+    unpack_into(&bytes, endianness, &mut back);
+}
+
 fn room_one_short() {
     let xs = [1, 2];
     let mut bytes = [BYTE; 5];
@@ -82,6 +111,8 @@ fn main() {
     both_ways(-1, Endianness::BigEndian);
     both_ways(8388607, Endianness::BigEndian);
     both_ways(-8388609, Endianness::LittleEndian);
+    many(Endianness::BigEndian);
+    many(Endianness::LittleEndian);
     room_one_short();
     odd_length();
 }
