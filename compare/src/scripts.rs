@@ -88,7 +88,8 @@ fn rate_bits(random: &mut Random) -> u64 {
 
 pub fn samples(random: &mut Random) -> Vec<i32> {
     const EDGES: [i32; 12] = [0, 1, -1, 255, 256, -256, 65535, 65536, 8388607, 8388608, -8388608, -8388609];
-    let n = random.below(9);
+    // up to two turns of our eight
+    let n = random.below(17);
     (0..n).map(|_| if random.one_in(2) { random.pick(&EDGES) } else { random.next() as i32 }).collect()
 }
 

@@ -14,9 +14,9 @@ use harness::script::{Call, Past, Script};
 use harness::scripts;
 
 /// Of the sample that is kept.
-const SEED: u64 = 1;
+const SEED: u64 = 3;
 const RANDOM_FILES: usize = 35;
-const RANDOM_SCRIPTS: usize = 90;
+const RANDOM_SCRIPTS: usize = 150;
 const RANDOM_SAMPLES: usize = 20;
 
 /// What a replaying program can hold; so much, or less, has the whole sample.
