@@ -13,7 +13,7 @@ use harness::random::Random;
 use harness::script::{Call, Past, Script};
 use harness::scripts;
 
-/// Of the sample that is kept.
+/// Of the sample that is kept: the first seed whose sample has a cut of each writing call.
 const SEED: u64 = 3;
 const RANDOM_FILES: usize = 35;
 const RANDOM_SCRIPTS: usize = 150;

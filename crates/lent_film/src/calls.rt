@@ -3,7 +3,7 @@ use show::word;
 use writer::CAFWriter;
 use writer::Wrote;
 
-// What is called. The tag is one that is not known; what is said of a configure is why it is refused.
+// The calls. The tag is one that is not known; PACKET_TOO_BIG and LABEL_UNKNOWN are configure calls that are refused for it.
 const TAG: u32 = 1;
 
 const CONFIGURE: u32 = 2;
@@ -24,8 +24,8 @@ const FINISH: u32 = 9;
 
 pub(crate) const CALLS: usize = 16;
 
-// The first six are refused: three come too early, three are given what can't be. So are the second header after a configure, data that exceed
-// the room, and data after the end. A second finish is not.
+// The first six are refused: three come too early, three are given what can't be. So are a header after the header, data that exceed the
+// room, and data after the finish. A second finish is not.
 pub(crate) const FILM: [u32; CALLS] = [
     DATA,
     FINISH,

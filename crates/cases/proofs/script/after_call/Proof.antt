@@ -3,7 +3,6 @@ use Rattle.cases.specs.Script.{afterCall}
 use borrow.Author.Needs.{needs}
 use Rattle.cases.proofs.script.after_call.Statement.{statement}
 use Rattle.cases.proofs.script.after_call.Tie as tie
-use Rattle.cases.proofs.script.after_call.Reads as reads
 
 plus-requires : tie.Need-plus-requires
 plus-requires c κs = search needs

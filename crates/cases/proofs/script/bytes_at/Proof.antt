@@ -5,7 +5,6 @@ use native.Mathlib.Omega.{arith}
 use borrow.Author.Needs.{needs}
 use Rattle.cases.proofs.script.bytes_at.Statement.{statement}
 use Rattle.cases.proofs.script.bytes_at.Tie as tie
-use Rattle.cases.proofs.script.bytes_at.Reads as reads
 
 after-bytes-requires : tie.Need-after-bytes-requires
 after-bytes-requires c κs = search needs

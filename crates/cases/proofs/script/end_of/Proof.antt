@@ -6,7 +6,6 @@ use native.Mathlib.Omega.{arith}
 use borrow.Author.Needs.{needs}
 use Rattle.cases.proofs.script.end_of.Statement.{statement}
 use Rattle.cases.proofs.script.end_of.Tie as tie
-use Rattle.cases.proofs.script.end_of.Reads as reads
 
 byte-requires : tie.Need-byte-requires
 byte-requires c κs = search needs

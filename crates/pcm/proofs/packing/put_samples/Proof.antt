@@ -4,7 +4,7 @@ use lib.Seq.{take-take}
 use lib.ListN.{length, drop}
 use lib.IntN.{ℤ}
 use native.Mathlib.Omega.{arith}
-use Prim.Native.Nat.{ℕ, _+_, _-_, _*_}
+use Prim.Native.Nat.{_+_, _-_, _*_}
 use mathlib.Core.List.{List}
 use mathlib.Core.Path.{_∙_, ap}
 use Rattle.pcm.proofs.Fours.{rest-put}
