@@ -59,7 +59,7 @@ fn layout_fits(numbers: &[u64]) -> bool
 }
 
 // Whether an array of a record's places stands for one.
-pub(crate) fn places_fit(numbers: &[u64]) -> bool
+fn places_fit(numbers: &[u64]) -> bool
     requires { ⌜ length (now numbers) ≡ recordPlaces ⌝ }
     ensures { λ r. ⌜ r ≡ isRecord (now (numbers .entry)) ⌝ }
 {
@@ -81,14 +81,14 @@ pub(crate) fn places_fit(numbers: &[u64]) -> bool
     numbers[FINISHED] < 2
 }
 
-// Whether the array stands for a record.
-fn is_record(numbers: &[u64]) -> bool
+// Whether the array stands for a record. The whole is handed on as a part of itself, as in `record_sound::sound_in`, where it says why.
+pub(crate) fn is_record(numbers: &[u64]) -> bool
     ensures { λ r. ⌜ r ≡ isRecord (now (numbers .entry)) ⌝ }
 {
     if numbers.len() != RECORD {
         return false;
     }
-    places_fit(numbers)
+    places_fit(&numbers[..RECORD])
 }
 
 pub(crate) fn format_of(numbers: &[u64]) -> MaybeFormat

@@ -10,9 +10,9 @@ use crate::places::LABELS;
 use crate::places::RECORD;
 use crate::places::SIZE_POSITION;
 use crate::record_from_numbers::format_of;
+use crate::record_from_numbers::is_record;
 use crate::record_from_numbers::layout_of;
 use crate::record_from_numbers::order_of;
-use crate::record_from_numbers::places_fit;
 use answers::FILE_MAX;
 use layout::ChannelLayout;
 use layout::known::known_label;
@@ -69,15 +69,11 @@ fn layout_sound(numbers: &[u64]) -> bool
     }
 }
 
-// Over a buffer of `room` bytes. An array that stands for no record is not sound. Its length is tested here, so that a compiler knows it
-// at every place that is looked at.
-pub fn sound_in(numbers: &[u64], room: usize) -> bool
+// Over a buffer of `room` bytes. An array that stands for no record is not sound.
+fn record_sound(numbers: &[u64], room: usize) -> bool
     ensures { λ r. ⌜ r ≡ soundIn (now (numbers .entry)) room ⌝ }
 {
-    if numbers.len() != RECORD {
-        return false;
-    }
-    if !places_fit(numbers) {
+    if !is_record(numbers) {
         return false;
     }
     let file_len = number_at(numbers, FILE_LEN) as usize;
@@ -104,4 +100,15 @@ pub fn sound_in(numbers: &[u64], room: usize) -> bool
         return false;
     }
     layout_sound(numbers)
+}
+
+// The length is tested first, so that a compiler knows it at every place that is looked at. Then the whole is handed on as a part of itself:
+// a slice that is handed on as it came is kept in memory, by two stores that one load follows, and a processor waits for them.
+pub fn sound_in(numbers: &[u64], room: usize) -> bool
+    ensures { λ r. ⌜ r ≡ soundIn (now (numbers .entry)) room ⌝ }
+{
+    if numbers.len() != RECORD {
+        return false;
+    }
+    record_sound(&numbers[..RECORD], room)
 }

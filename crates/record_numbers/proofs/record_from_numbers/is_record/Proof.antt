@@ -1,4 +1,7 @@
 use Rattle.record_numbers.specs.RecordNumbers.{isRecord}
+use mathlib.Core.Path.{_∙_, ap}
+use native.Mathlib.Omega.{arith}
+use lib.Seq.{take-all}
 use borrow.Author.Tests.{ne-eqb}
 use borrow.Author.Needs.{needs}
 use Rattle.record_numbers.proofs.record_from_numbers.is_record.Statement.{statement}
@@ -8,11 +11,14 @@ returns : tie.Need-returns
 unfolding isRecord
 returns c = rw (ne-eqb _ _ (c .if1 .taken))
 
+slice-aggregate-places-fit : tie.Need-slice-aggregate-places-fit
+slice-aggregate-places-fit c = rw (take-all 82 (c .before .before .before .args .numbers .now) (omega arith)) (omega arith)
+
 places-fit-requires : tie.Need-places-fit-requires
-places-fit-requires c κs = search needs
+places-fit-requires c κs = rw (take-all 82 (c .before .before .before .args .numbers .now) (omega arith)) (omega arith)
 
 returns-2 : tie.Need-returns-2
-returns-2 c = c .places-fit .ensures
+returns-2 c = c .places-fit .ensures ∙ ap isRecord (take-all 82 (c .before .before .before .before .args .numbers .now) (omega arith))
 
 pub is-record-spec : {M : Type 1} → statement M
-is-record-spec = tie.close (tie.spec returns places-fit-requires returns-2)
+is-record-spec = tie.close (tie.spec returns slice-aggregate-places-fit places-fit-requires returns-2)

@@ -1,9 +1,11 @@
-use Rattle.record_numbers.specs.RecordNumbers.{isRecord, recordOf}
+use Rattle.record_numbers.specs.RecordNumbers.{isRecord}
 use Rattle.record_numbers.specs.RecordSound.{soundIn}
-use Rattle.record_numbers.proofs.Records.{is-record}
-use Rattle.writer.specs.Sound.{placesSound, formatSound, layoutSound, soundAlone, sound}
-use mathlib.Core.Path.{sym, _∙_}
-use borrow.Author.Tests.{ne-eqb, le-leb, lt-leb, not-true, not-false}
+use Prim.Native.Nat.{ℕ}
+use mathlib.Core.List.{List}
+use mathlib.Core.Path.{_∙_, ap}
+use native.Mathlib.Omega.{arith}
+use lib.Seq.{take-all}
+use borrow.Author.Tests.{ne-eqb}
 use borrow.Author.Needs.{needs}
 use Rattle.record_numbers.proofs.record_sound.sound_in.Statement.{statement}
 use Rattle.record_numbers.proofs.record_sound.sound_in.Tie as tie
@@ -12,153 +14,16 @@ returns : tie.Need-returns
 unfolding soundIn isRecord
 returns c = rw (ne-eqb _ _ (c .if1 .taken))
 
-places-fit-requires : tie.Need-places-fit-requires
-places-fit-requires c κs = search needs
+slice-aggregate-record-sound : tie.Need-slice-aggregate-record-sound
+slice-aggregate-record-sound c = rw (take-all 82 (c .before .before .before .args .numbers .now) (omega arith)) (omega arith)
+
+record-sound-requires : tie.Need-record-sound-requires
+record-sound-requires c κs = search needs
 
 returns-2 : tie.Need-returns-2
-unfolding soundIn
-returns-2 c = rw (sym (c .before .places-fit .ensures) ∙ not-true _ (c .if2 .taken))
-
-number-at-requires : tie.Need-number-at-requires
-number-at-requires c κs = search needs
-
-returns-3 : tie.Need-returns-3
-unfolding soundIn sound recordOf
-returns-3 c =
-    rw (
-      sym (c .before .before .before .places-fit .ensures) ∙ not-false _ (c .before .before .if2 .left),
-      ← c .before .number-at .ensures,
-      lt-leb _ _ (c .if3 .taken),
-    )
-
-returns-4 : tie.Need-returns-4
-unfolding soundIn sound soundAlone recordOf
-returns-4 c =
-    rw (
-      sym (c .before .before .before .before .places-fit .ensures) ∙ not-false _ (c .before .before .before .if2 .left),
-      ← c .before .before .number-at .ensures,
-      le-leb _ _ (c .before .if3 .left),
-      lt-leb _ _ (c .if4 .taken),
-    )
-
-number-at-requires-2 : tie.Need-number-at-requires-2
-number-at-requires-2 c κs = search needs
-
-number-at-requires-3 : tie.Need-number-at-requires-3
-number-at-requires-3 c κs = search needs
-
-number-at-requires-4 : tie.Need-number-at-requires-4
-number-at-requires-4 c κs = search needs
-
-number-at-requires-5 : tie.Need-number-at-requires-5
-number-at-requires-5 c κs = search needs
-
-number-at-requires-6 : tie.Need-number-at-requires-6
-number-at-requires-6 c κs = search needs
-
-places-sound-requires : tie.Need-places-sound-requires
-places-sound-requires c κs = search needs
-
-returns-5 : tie.Need-returns-5
-unfolding soundIn sound soundAlone placesSound recordOf
-returns-5 c =
-    rw (
-      sym (c .before .before .before .before .before .before .before .before .before .before .before .places-fit .ensures) ∙ not-false _ (c .before .before .before .before .before .before .before .before .before .before .if2 .left),
-      ← c .before .before .before .before .before .before .before .before .before .number-at .ensures,
-      le-leb _ _ (c .before .before .before .before .before .before .before .before .if3 .left),
-      le-leb _ _ (c .before .before .before .before .before .before .before .if4 .left),
-      ← c .before .before .before .before .before .before .number-at2 .ensures,
-      ← c .before .before .before .before .before .number-at3 .ensures,
-      ← c .before .before .before .before .number-at4 .ensures,
-      ← c .before .before .before .number-at5 .ensures,
-      ← c .before .before .number-at6 .ensures,
-      ← c .before .places-sound .ensures,
-      not-true (c .before .places-sound .result) (c .if5 .taken),
-    )
-
-format-of-requires : tie.Need-format-of-requires
-format-of-requires c κs =
-    let is = is-record _ (sym (c .before .before .before .before .before .before .before .before .before .before .before .places-fit .ensures) ∙ not-false _ (c .before .before .before .before .before .before .before .before .before .before .if2 .left)) in
-    (is .places, is .format)
-
-number-at-requires-7 : tie.Need-number-at-requires-7
-number-at-requires-7 c κs = search needs
-
-order-of-requires : tie.Need-order-of-requires
-order-of-requires c κs = search needs
-
-format-sound-requires : tie.Need-format-sound-requires
-format-sound-requires c κs = search needs
-
-returns-6 : tie.Need-returns-6
-unfolding soundIn sound soundAlone placesSound formatSound recordOf
-returns-6 c =
-    rw (
-      sym (c .before .before .before .before .before .before .before .before .before .before .before .before .before .before .before .before .places-fit .ensures) ∙ not-false _ (c .before .before .before .before .before .before .before .before .before .before .before .before .before .before .before .if2 .left),
-      ← c .before .before .before .before .before .before .before .before .before .before .before .before .before .before .number-at .ensures,
-      le-leb _ _ (c .before .before .before .before .before .before .before .before .before .before .before .before .before .if3 .left),
-      le-leb _ _ (c .before .before .before .before .before .before .before .before .before .before .before .before .if4 .left),
-      ← c .before .before .before .before .before .before .before .before .before .before .before .number-at2 .ensures,
-      ← c .before .before .before .before .before .before .before .before .before .before .number-at3 .ensures,
-      ← c .before .before .before .before .before .before .before .before .before .number-at4 .ensures,
-      ← c .before .before .before .before .before .before .before .before .number-at5 .ensures,
-      ← c .before .before .before .before .before .before .before .number-at6 .ensures,
-      ← c .before .before .before .before .before .before .places-sound .ensures,
-      not-false (c .before .before .before .before .before .before .places-sound .result) (c .before .before .before .before .before .if5 .left),
-      ← c .before .before .before .before .format-of .ensures,
-      ← c .before .before .before .number-at7 .ensures,
-      ← c .before .before .order-of .ensures,
-      ← c .before .format-sound .ensures,
-      not-true (c .before .format-sound .result) (c .if6 .taken),
-    )
-
-layout-sound-requires : tie.Need-layout-sound-requires
-layout-sound-requires c κs = sym (c .before .before .before .before .before .before .before .before .before .before .before .before .before .before .before .before .places-fit .ensures) ∙ not-false _ (c .before .before .before .before .before .before .before .before .before .before .before .before .before .before .before .if2 .left)
-
-returns-7 : tie.Need-returns-7
-unfolding soundIn sound soundAlone placesSound formatSound layoutSound recordOf
-returns-7 c =
-    rw (
-      sym (c .before .before .before .before .before .before .before .before .before .before .before .before .before .before .before .before .before .places-fit .ensures) ∙ not-false _ (c .before .before .before .before .before .before .before .before .before .before .before .before .before .before .before .before .if2 .left),
-      ← c .before .before .before .before .before .before .before .before .before .before .before .before .before .before .before .number-at .ensures,
-      le-leb _ _ (c .before .before .before .before .before .before .before .before .before .before .before .before .before .before .if3 .left),
-      le-leb _ _ (c .before .before .before .before .before .before .before .before .before .before .before .before .before .if4 .left),
-      ← c .before .before .before .before .before .before .before .before .before .before .before .before .number-at2 .ensures,
-      ← c .before .before .before .before .before .before .before .before .before .before .before .number-at3 .ensures,
-      ← c .before .before .before .before .before .before .before .before .before .before .number-at4 .ensures,
-      ← c .before .before .before .before .before .before .before .before .before .number-at5 .ensures,
-      ← c .before .before .before .before .before .before .before .before .number-at6 .ensures,
-      ← c .before .before .before .before .before .before .before .places-sound .ensures,
-      not-false (c .before .before .before .before .before .before .before .places-sound .result) (c .before .before .before .before .before .before .if5 .left),
-      ← c .before .before .before .before .before .format-of .ensures,
-      ← c .before .before .before .before .number-at7 .ensures,
-      ← c .before .before .before .order-of .ensures,
-      ← c .before .before .format-sound .ensures,
-      not-false (c .before .before .format-sound .result) (c .before .if6 .left),
-    )
-    (c .layout-sound .ensures)
+returns-2 c =
+    let a = c .before .before .before .before .args in
+    c .record-sound .ensures ∙ ap (λ (ns : List ℕ). soundIn ns (a .room)) (take-all 82 (a .numbers .now) (omega arith))
 
 pub sound-in-spec : {M : Type 1} → statement M
-sound-in-spec =
-    tie.close
-    (tie.spec
-    returns
-    places-fit-requires
-    returns-2
-    number-at-requires
-    returns-3
-    returns-4
-    number-at-requires-2
-    number-at-requires-3
-    number-at-requires-4
-    number-at-requires-5
-    number-at-requires-6
-    places-sound-requires
-    returns-5
-    format-of-requires
-    number-at-requires-7
-    order-of-requires
-    format-sound-requires
-    returns-6
-    layout-sound-requires
-    returns-7)
+sound-in-spec = tie.close (tie.spec returns slice-aggregate-record-sound record-sound-requires returns-2)
