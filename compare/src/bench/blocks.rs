@@ -7,7 +7,8 @@ use std::io::Read;
 
 use crate::files::chunks_before;
 use crate::linked::{self, Feeder};
-use crate::race::{Goal, Table, Windows, repeated};
+use crate::measured::{Windows, repeated};
+use crate::race::{Goal, Table};
 use crate::{KIB, MIB};
 
 /// A file of small chunks, fed in blocks.

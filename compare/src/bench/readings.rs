@@ -7,7 +7,8 @@ use oracle::caf::parse_caf_file;
 
 use crate::files::{chunks_after, chunks_before, example};
 use crate::linked;
-use crate::race::{Goal, Side, Table, repeated};
+use crate::measured::repeated;
+use crate::race::{Goal, Side, Table};
 
 fn parse(file: &[u8]) -> Side<'_> {
     repeated(move || {

@@ -3,7 +3,8 @@
 use std::hint::black_box;
 
 use crate::linked;
-use crate::race::{Goal, Table, repeated};
+use crate::measured::repeated;
+use crate::race::{Goal, Table};
 
 const SAMPLES: usize = 4096;
 

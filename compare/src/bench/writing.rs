@@ -1,5 +1,6 @@
 //! The writer's calls and its lookup of labels, beside the Rust's.
 
+use std::cell::RefCell;
 use std::hint::black_box;
 use std::io::Cursor;
 use std::mem::ManuallyDrop;
@@ -7,7 +8,8 @@ use std::mem::ManuallyDrop;
 use oracle::caf::{CAFWriter, ChannelLabel, ChannelLayoutTag, Endianness, PCMDataType};
 
 use crate::linked::{self, Writer};
-use crate::race::{Goal, Side, Table, Windows, repeated};
+use crate::measured::{Windows, repeated};
+use crate::race::{Goal, Row, Side, Table};
 use crate::{KIB, MIB};
 
 /// Head, format and the start of the data.
@@ -30,32 +32,57 @@ fn our_writer(buffer: &mut [u8]) -> Writer {
     writer
 }
 
-/// Data calls go through a region that no cache of a core holds, from its start to its end, and again.
-pub fn data_calls(table: &Table) {
+/// Data calls go through a region that no cache of a core holds, from its start to its end, and again. Both sides go through the same one
+/// with the same bytes, so that how their memory lies tells for both. `made`: the bytes are made anew before each call, as a decoder's are.
+fn data_call(row: Row, size: usize, made: bool) {
     const REGION: usize = 16 * MIB;
     const A_WINDOW: usize = 2 * MIB;
+    let memory = RefCell::new((vec![0xa5; HEADER + REGION.max(size)], vec![0; size]));
+    let (calls, windows) = ((A_WINDOW / size).max(1), REGION.max(size) / A_WINDOW.max(size));
+    let make = |bytes: &mut [u8], call: usize| {
+        if made {
+            bytes.fill(call as u8);
+        }
+    };
+    let ours = |timed: &mut Windows| {
+        let (buffer, bytes) = &mut *memory.borrow_mut();
+        let mut writer = our_writer(buffer);
+        for _ in 0..windows {
+            timed.window(calls, || {
+                for call in 0..calls {
+                    make(bytes, call);
+                    assert_eq!(writer.data(buffer, black_box(bytes)), 0);
+                }
+            });
+        }
+    };
+    let rust = |timed: &mut Windows| {
+        let (buffer, bytes) = &mut *memory.borrow_mut();
+        let mut writer = rust_writer(buffer);
+        for _ in 0..windows {
+            timed.window(calls, || {
+                for call in 0..calls {
+                    make(bytes, call);
+                    writer.write_data(black_box(bytes)).expect("room");
+                }
+            });
+        }
+    };
+    row.race(Box::new(ours), Box::new(rust));
+}
+
+pub fn data_calls(table: &Table) {
     for (name, size, most) in
         [("4 KiB", 4 * KIB, 0.9), ("64 KiB", 64 * KIB, 0.8), ("1 MiB", MIB, 1.05), ("64 MiB", 64 * MIB, 1.0)]
     {
-        let what = format!("data call of {name}");
-        let Some(row) = table.row(what, "the Rust writer", Goal::Ratio(most)) else { continue };
-        let bytes: Vec<u8> = (0..size).map(|i| i as u8).collect();
-        let [mut a, mut b] = [(); 2].map(|_| vec![0xa5; HEADER + REGION.max(size)]);
-        let (calls, windows) = ((A_WINDOW / size).max(1), REGION.max(size) / A_WINDOW.max(size));
-        let ours = |timed: &mut Windows| {
-            let mut writer = our_writer(&mut a);
-            for _ in 0..windows {
-                timed.window(calls, || (0..calls).for_each(|_| assert_eq!(writer.data(&mut a, black_box(&bytes)), 0)));
-            }
-        };
-        let rust = |timed: &mut Windows| {
-            let mut writer = rust_writer(&mut b);
-            for _ in 0..windows {
-                timed.window(calls, || (0..calls).for_each(|_| writer.write_data(black_box(&bytes)).expect("room")));
-            }
-        };
-        row.race(Box::new(ours), Box::new(rust));
-        assert!(a[HEADER..] == b[HEADER..]);
+        if let Some(row) = table.row(format!("data call of {name}"), "the Rust writer", Goal::Ratio(most)) {
+            data_call(row, size, false);
+        }
+    }
+    for (name, size) in [("4 KiB", 4 * KIB), ("64 KiB", 64 * KIB)] {
+        if let Some(row) = table.row(format!("{name} made and written"), "the Rust writer", Goal::None) {
+            data_call(row, size, true);
+        }
     }
 }
 
@@ -76,7 +103,9 @@ pub fn empty_calls(table: &Table) {
         let mut writer = rust_writer(&mut file);
         row.race(stereo(), repeated(move || writer.write_data(black_box(&[])).expect("room")));
     }
-    if let Some(row) = table.row("empty data call, the last of the tags", "the same by the tag of stereo", Goal::Ratio(1.1)) {
+    if let Some(row) =
+        table.row("empty data call, the last of the tags", "the same by the tag of stereo", Goal::Ratio(1.1))
+    {
         row.race(by_tag(ChannelLayoutTag::ReservedDoNotUse), stereo());
     }
     let labels: Vec<_> = (0..64).map(|i| ChannelLabel::AmbisonicW as u32 + i % 8).collect();

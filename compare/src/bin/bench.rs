@@ -10,6 +10,9 @@ mod blocks;
 mod files;
 #[path = "../bench/linked.rs"]
 mod linked;
+#[cfg_attr(traced, path = "../bench/traced.rs")]
+#[cfg_attr(not(traced), path = "../bench/timed.rs")]
+mod measured;
 #[path = "../bench/race.rs"]
 mod race;
 #[path = "../bench/readings.rs"]
