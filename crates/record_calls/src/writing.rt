@@ -1,5 +1,5 @@
 // The calls on a buffer. `held` is the array that keeps the record. A call looks at the array's own numbers and changes the places that it
-// has to; only for a header is the record made.
+// has to; only for a header is the record made. Its length is tested before all else, so that a compiler asks for it once.
 use answers::BAD_WRITER;
 use answers::DONE;
 use byteorder::bytes::u64_bytes;
@@ -17,6 +17,7 @@ use record_numbers::places::FILE_LEN;
 use record_numbers::places::FINISHED;
 use record_numbers::places::HAS_FORMAT;
 use record_numbers::places::HAS_HEADER;
+use record_numbers::places::RECORD;
 use record_numbers::places::SIZE_POSITION;
 use record_numbers::record_from_numbers::order_of;
 use record_numbers::record_from_numbers::record_in;
@@ -82,6 +83,9 @@ fn grow(held: &mut [u64], n: usize)
 fn data_number_on(held: &[u64], room: usize, n: usize) -> u32
     ensures { λ r. ⌜ r ≡ numberOn (now (held .entry)) (λ w. dataNumber w room n) ⌝ }
 {
+    if held.len() != RECORD {
+        return BAD_WRITER;
+    }
     let sound = sound_in(held, room);
     let finished = number_at(held, FINISHED) == 1;
     let has_header = number_at(held, HAS_HEADER) == 1;
@@ -106,6 +110,9 @@ pub fn write_data(held: &mut [u64], buf: &mut [u8], bytes: &[u8]) -> u32
 fn samples_number_on(held: &[u64], room: usize, n: usize) -> u32
     ensures { λ r. ⌜ r ≡ numberOn (now (held .entry)) (λ w. samplesNumber w room n) ⌝ }
 {
+    if held.len() != RECORD {
+        return BAD_WRITER;
+    }
     let sound = sound_in(held, room);
     let finished = number_at(held, FINISHED) == 1;
     let has_header = number_at(held, HAS_HEADER) == 1;
@@ -142,6 +149,9 @@ fn close(held: &mut [u64])
 fn finish_number_on(held: &[u64], room: usize) -> u32
     ensures { λ r. ⌜ r ≡ numberOn (now (held .entry)) (λ w. finishNumber w room) ⌝ }
 {
+    if held.len() != RECORD {
+        return BAD_WRITER;
+    }
     let sound = sound_in(held, room);
     let finished = number_at(held, FINISHED) == 1;
     let has_header = number_at(held, HAS_HEADER) == 1;

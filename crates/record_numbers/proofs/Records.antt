@@ -1,6 +1,6 @@
 -- What is known of an array that stands for a record.
 use mathlib.Core.Path.{_≡_}
-use mathlib.Core.Bool.{true}
+use mathlib.Core.Bool.{true, false}
 use mathlib.Core.List.{List, _++_}
 use Prim.Native.Nat.{ℕ, suc, _<_}
 use native.Mathlib.Nat.{zero-add}
@@ -40,6 +40,11 @@ is-record ns e =
       header = ltb-true _ _ (e₅ .1);
       finished = ltb-true _ _ (e₆ .1);
     }
+
+-- an array of another length stands for none
+pub other-length : (ns : List ℕ) → (length ns ≡ recordPlaces → ⊥) → isRecord ns ≡ false
+unfolding isRecord
+other-length ns other = rw (ne-eqb _ _ other)
 
 -- the six numbers of a format that is there
 pub format-words : (ns : List ℕ) → formatFits ns ≡ true → (at ns 0 ≡ 0 → ⊥) → allWords (take 6 (drop 2 ns)) ≡ true

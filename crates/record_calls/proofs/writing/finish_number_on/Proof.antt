@@ -1,7 +1,11 @@
 use Rattle.record_calls.proofs.Changed.{finish-seen}
+use Rattle.record_numbers.proofs.Records.{other-length}
 use borrow.Author.Needs.{needs}
 use Rattle.record_calls.proofs.writing.finish_number_on.Statement.{statement}
 use Rattle.record_calls.proofs.writing.finish_number_on.Tie as tie
+
+returns : tie.Need-returns
+returns c = rw (other-length (c .before .before .args .held .now) (c .if1 .taken))
 
 sound-in-requires : tie.Need-sound-in-requires
 sound-in-requires c κs = search needs
@@ -15,10 +19,10 @@ number-at-requires-2 c κs = search needs
 finish-number-requires : tie.Need-finish-number-requires
 finish-number-requires c κs = search needs
 
-returns : tie.Need-returns
-returns c =
+returns-2 : tie.Need-returns-2
+returns-2 c =
     rw (
-      ← finish-seen (c .before .before .before .before .before .args .held .now) (c .before .before .before .before .before .args .room),
+      ← finish-seen (c .before .before .before .before .before .before .args .held .now) (c .before .before .before .before .before .before .args .room),
       ← c .before .before .before .sound-in .ensures,
       ← c .before .before .number-at .ensures,
       ← c .before .number-at2 .ensures,
@@ -26,4 +30,4 @@ returns c =
     (c .finish-number .ensures)
 
 pub finish-number-on-spec : {M : Type 1} → statement M
-finish-number-on-spec = tie.close (tie.spec sound-in-requires number-at-requires number-at-requires-2 finish-number-requires returns)
+finish-number-on-spec = tie.close (tie.spec returns sound-in-requires number-at-requires number-at-requires-2 finish-number-requires returns-2)

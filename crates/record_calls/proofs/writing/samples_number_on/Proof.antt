@@ -1,8 +1,12 @@
 use Rattle.record_calls.proofs.Changed.{samples-seen}
 use mathlib.Core.Path.{_∙_}
+use Rattle.record_numbers.proofs.Records.{other-length}
 use borrow.Author.Needs.{needs}
 use Rattle.record_calls.proofs.writing.samples_number_on.Statement.{statement}
 use Rattle.record_calls.proofs.writing.samples_number_on.Tie as tie
+
+returns : tie.Need-returns
+returns c = rw (other-length (c .before .before .args .held .now) (c .if1 .taken))
 
 sound-in-requires : tie.Need-sound-in-requires
 sound-in-requires c κs = search needs
@@ -22,10 +26,10 @@ number-at-requires-4 c κs = search needs
 samples-number-requires : tie.Need-samples-number-requires
 samples-number-requires c κs = search needs
 
-returns : tie.Need-returns
-returns c =
+returns-2 : tie.Need-returns-2
+returns-2 c =
     rw (
-      ← samples-seen (c .before .before .before .before .before .before .before .args .held .now) (c .before .before .before .before .before .before .before .args .room) (c .before .before .before .before .before .before .before .args .n),
+      ← samples-seen (c .before .before .before .before .before .before .before .before .args .held .now) (c .before .before .before .before .before .before .before .before .args .room) (c .before .before .before .before .before .before .before .before .args .n),
       ← c .before .before .before .before .before .sound-in .ensures,
       ← c .before .before .before .before .number-at .ensures,
       ← c .before .before .before .number-at2 .ensures,
@@ -38,10 +42,11 @@ pub samples-number-on-spec : {M : Type 1} → statement M
 samples-number-on-spec =
     tie.close
     (tie.spec
+    returns
     sound-in-requires
     number-at-requires
     number-at-requires-2
     number-at-requires-3
     number-at-requires-4
     samples-number-requires
-    returns)
+    returns-2)

@@ -1,15 +1,14 @@
 use Rattle.record_numbers.specs.RecordNumbers.{isRecord}
-use mathlib.Core.Path.{_∙_, ap}
+use Rattle.record_numbers.proofs.Records.{other-length}
+use mathlib.Core.Path.{sym, _∙_, ap}
 use native.Mathlib.Omega.{arith}
 use lib.Seq.{take-all}
-use borrow.Author.Tests.{ne-eqb}
 use borrow.Author.Needs.{needs}
 use Rattle.record_numbers.proofs.record_from_numbers.is_record.Statement.{statement}
 use Rattle.record_numbers.proofs.record_from_numbers.is_record.Tie as tie
 
 returns : tie.Need-returns
-unfolding isRecord
-returns c = rw (ne-eqb _ _ (c .if1 .taken))
+returns c = sym (other-length (c .before .before .args .numbers .now) (c .if1 .taken))
 
 slice-aggregate-places-fit : tie.Need-slice-aggregate-places-fit
 slice-aggregate-places-fit c = rw (take-all 82 (c .before .before .before .args .numbers .now) (omega arith)) (omega arith)

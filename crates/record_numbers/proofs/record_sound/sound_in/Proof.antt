@@ -1,18 +1,17 @@
-use Rattle.record_numbers.specs.RecordNumbers.{isRecord}
 use Rattle.record_numbers.specs.RecordSound.{soundIn}
+use Rattle.record_numbers.proofs.Records.{other-length}
 use Prim.Native.Nat.{ℕ}
 use mathlib.Core.List.{List}
 use mathlib.Core.Path.{_∙_, ap}
 use native.Mathlib.Omega.{arith}
 use lib.Seq.{take-all}
-use borrow.Author.Tests.{ne-eqb}
 use borrow.Author.Needs.{needs}
 use Rattle.record_numbers.proofs.record_sound.sound_in.Statement.{statement}
 use Rattle.record_numbers.proofs.record_sound.sound_in.Tie as tie
 
 returns : tie.Need-returns
-unfolding soundIn isRecord
-returns c = rw (ne-eqb _ _ (c .if1 .taken))
+unfolding soundIn
+returns c = rw (other-length (c .before .before .args .numbers .now) (c .if1 .taken))
 
 slice-aggregate-record-sound : tie.Need-slice-aggregate-record-sound
 slice-aggregate-record-sound c = rw (take-all 82 (c .before .before .before .args .numbers .now) (omega arith)) (omega arith)
