@@ -37,7 +37,8 @@ fn our_writer(buffer: &mut [u8]) -> Writer {
 fn data_call(row: Row, size: usize, made: bool) {
     const REGION: usize = 16 * MIB;
     const A_WINDOW: usize = 2 * MIB;
-    let memory = RefCell::new((vec![0xa5; HEADER + REGION.max(size)], vec![0; size]));
+    let bytes: Vec<u8> = (0..size).map(|i| i as u8).collect();
+    let memory = RefCell::new((vec![0xa5; HEADER + REGION.max(size)], bytes));
     let (calls, windows) = ((A_WINDOW / size).max(1), REGION.max(size) / A_WINDOW.max(size));
     let make = |bytes: &mut [u8], call: usize| {
         if made {
