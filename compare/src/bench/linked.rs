@@ -52,6 +52,16 @@ unsafe extern "C" {
         count: usize,
     ) -> u32;
     fn caf_finish(record: *mut u64, record_len: usize, buf: *mut u8, buf_len: usize) -> u32;
+    fn caf_resume(
+        buf: *mut u8,
+        buf_len: usize,
+        file_len: u64,
+        record: *mut u64,
+        record_len: usize,
+        chunks: *mut u64,
+        chunks_len: usize,
+    ) -> u32;
+    fn caf_stats(record: *const u64, record_len: usize, out: *mut u64, out_len: usize) -> u32;
     fn caf_feed_begin(feeder: *mut u64, feeder_len: usize) -> u32;
     fn caf_feed(feeder: *mut u64, feeder_len: usize, block: *const u8, block_len: usize) -> u32;
     fn caf_feed_end(feeder: *const u64, feeder_len: usize, out: *mut u64, out_len: usize) -> u32;
@@ -117,6 +127,19 @@ impl Writer {
         let mut record = [0; RECORD];
         assert_eq!(unsafe { caf_new(record.as_mut_ptr(), RECORD) }, 0);
         Writer(record)
+    }
+
+    /// Of the file that fills the buffer; its number.
+    pub fn resume(&mut self, buf: &mut [u8]) -> u32 {
+        let (record, len, mut chunks) = (self.0.as_mut_ptr(), buf.len(), 0);
+        unsafe { caf_resume(buf.as_mut_ptr(), len, len as u64, record, RECORD, &mut chunks, 1) }
+    }
+
+    /// Data bytes of the session, and whether it is finished.
+    pub fn stats(&self) -> [u64; 2] {
+        let mut found = [0; 2];
+        assert_eq!(unsafe { caf_stats(self.0.as_ptr(), RECORD, found.as_mut_ptr(), 2) }, 0);
+        found
     }
 
     pub fn set_format(&mut self, rate: f64, channels: u32, bits: u32, is_float: bool, little: bool) -> u32 {

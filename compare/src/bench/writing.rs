@@ -7,6 +7,7 @@ use std::mem::ManuallyDrop;
 
 use oracle::caf::{CAFWriter, ChannelLabel, ChannelLayoutTag, Endianness, PCMDataType};
 
+use crate::files::example;
 use crate::linked::{self, Writer};
 use crate::measured::{Windows, repeated};
 use crate::race::{Goal, Row, Side, Table};
@@ -32,42 +33,46 @@ fn our_writer(buffer: &mut [u8]) -> Writer {
     writer
 }
 
+/// A block of bytes for data calls, and how often it is written. `made`: it is filled before each call, as a decoder fills it.
+struct Block {
+    bytes: Vec<u8>,
+    made: bool,
+    calls: usize,
+    windows: usize,
+}
+
+impl Block {
+    fn written(&mut self, timed: &mut Windows, mut call: impl FnMut(&[u8])) {
+        for _ in 0..self.windows {
+            timed.window(self.calls, || {
+                for i in 0..self.calls {
+                    if self.made {
+                        self.bytes.fill(i as u8);
+                    }
+                    call(black_box(&self.bytes));
+                }
+            });
+        }
+    }
+}
+
 /// Data calls go through a region that no cache of a core holds, from its start to its end, and again. Both sides go through the same one
-/// with the same bytes, so that how their memory lies tells for both. `made`: the bytes are made anew before each call, as a decoder's are.
+/// with the same block, so that how their memory lies tells for both.
 fn data_call(row: Row, size: usize, made: bool) {
     const REGION: usize = 16 * MIB;
     const A_WINDOW: usize = 2 * MIB;
-    let bytes: Vec<u8> = (0..size).map(|i| i as u8).collect();
-    let memory = RefCell::new((vec![0xa5; HEADER + REGION.max(size)], bytes));
+    let bytes = (0..size).map(|i| i as u8).collect();
     let (calls, windows) = ((A_WINDOW / size).max(1), REGION.max(size) / A_WINDOW.max(size));
-    let make = |bytes: &mut [u8], call: usize| {
-        if made {
-            bytes.fill(call as u8);
-        }
-    };
+    let memory = RefCell::new((vec![0xa5; HEADER + REGION.max(size)], Block { bytes, made, calls, windows }));
     let ours = |timed: &mut Windows| {
-        let (buffer, bytes) = &mut *memory.borrow_mut();
+        let (buffer, block) = &mut *memory.borrow_mut();
         let mut writer = our_writer(buffer);
-        for _ in 0..windows {
-            timed.window(calls, || {
-                for call in 0..calls {
-                    make(bytes, call);
-                    assert_eq!(writer.data(buffer, black_box(bytes)), 0);
-                }
-            });
-        }
+        block.written(timed, |bytes| assert_eq!(writer.data(buffer, bytes), 0));
     };
     let rust = |timed: &mut Windows| {
-        let (buffer, bytes) = &mut *memory.borrow_mut();
+        let (buffer, block) = &mut *memory.borrow_mut();
         let mut writer = rust_writer(buffer);
-        for _ in 0..windows {
-            timed.window(calls, || {
-                for call in 0..calls {
-                    make(bytes, call);
-                    writer.write_data(black_box(bytes)).expect("room");
-                }
-            });
-        }
+        block.written(timed, |bytes| writer.write_data(bytes).expect("room"));
     };
     row.race(Box::new(ours), Box::new(rust));
 }
@@ -161,6 +166,44 @@ pub fn clip(table: &Table) {
     };
     row.race(repeated(ours), repeated(rust));
     assert_eq!(a, b);
+}
+
+/// Calls by themselves, beside those above. Each is for a session or a question, and no decoder's loop makes it.
+pub fn single_calls(table: &Table) {
+    let row = |what| table.row(what, "the Rust writer", Goal::None);
+    let [mut a, mut b] = [(); 2].map(|_| example());
+    if let Some(row) = row("format and header on a fresh writer") {
+        row.race(
+            repeated(|| {
+                black_box(our_writer(&mut a).stats());
+            }),
+            repeated(|| {
+                black_box(rust_writer(&mut b).stats());
+            }),
+        );
+    }
+    let [mut a, mut b] = [(); 2].map(|_| example());
+    if let Some(row) = row("resume of 98 bytes") {
+        let mut writer = Writer::new();
+        row.race(
+            repeated(|| assert_eq!(writer.resume(black_box(&mut a)), 0)),
+            repeated(|| {
+                let resumed = CAFWriter::from_existing_file(Cursor::new(&mut black_box(&mut b)[..]));
+                black_box(ManuallyDrop::new(resumed.expect("a file")).stats());
+            }),
+        );
+    }
+    if let Some(row) = row("stats") {
+        let (ours, rust) = (our_writer(&mut a), rust_writer(&mut b));
+        row.race(
+            repeated(|| {
+                black_box(black_box(&ours).stats());
+            }),
+            repeated(|| {
+                black_box(black_box(&rust).stats());
+            }),
+        );
+    }
 }
 
 /// The tag for labels that the first row has, the last, and none.

@@ -35,6 +35,7 @@ fn main() {
     writing::small_samples(&table);
     writing::clip(&table);
     writing::lookups(&table);
+    writing::single_calls(&table);
     blocks::fed_chunks(&table);
     readings::opened(&table);
     blocks::fed_data(&table);
