@@ -4,8 +4,11 @@ use answers::DONE;
 use answers::NO_ROOM;
 use numbers::lent_numbers::flag;
 use numbers::lent_numbers::put;
+use numbers::words::number_at;
+use record_numbers::places::DATA_COUNT;
+use record_numbers::places::FINISHED;
 use record_numbers::places::RECORD;
-use record_numbers::record_from_numbers::record_in;
+use record_numbers::record_from_numbers::is_record;
 use record_numbers::record_to_numbers::put_record;
 use writer::CAFWriter;
 use writer::CAFWriterStats;
@@ -75,17 +78,20 @@ fn tell_stats(out: &mut [u64], stats: CAFWriterStats)
     put(out, 0, &numbers);
 }
 
+// No record is made for them.
 pub fn stats(held: &[u64], out: &mut [u64]) -> u32
     ensures { λ r. ⌜ StatsCall (now (held .entry)) (now (out .entry)) r (now (out .exit)) ⌝ }
 {
     if out.len() < STATS_PLACES {
         return NO_ROOM;
     }
-    let kept = record_in(held);
-    if !kept.stands {
+    if !is_record(held) {
         return BAD_WRITER;
     }
-    let stats = kept.writer.stats();
+    let stats = CAFWriterStats {
+        data_count: number_at(held, DATA_COUNT) as usize,
+        finished: number_at(held, FINISHED) == 1,
+    };
     tell_stats(out, stats);
     DONE
 }

@@ -82,7 +82,7 @@ fn places_fit(numbers: &[u64]) -> bool
 }
 
 // Whether the array stands for a record. The whole is handed on as a part of itself, as in `record_sound::sound_in`, where it says why.
-pub(crate) fn is_record(numbers: &[u64]) -> bool
+pub fn is_record(numbers: &[u64]) -> bool
     ensures { λ r. ⌜ r ≡ isRecord (now (numbers .entry)) ⌝ }
 {
     if numbers.len() != RECORD {
