@@ -4,7 +4,7 @@ use std::arch::asm;
 
 use crate::race::{Row, Side};
 
-/// Where the instructions of a window begin and end. It is called by its address, so that it stands in the program once.
+/// Where the instructions of a window begin and end. It is called and not put in place, so that its address tells.
 #[unsafe(no_mangle)]
 #[inline(never)]
 extern "C" fn mark() {

@@ -75,6 +75,8 @@ fn data_call(row: Row, size: usize, made: bool) {
         block.written(timed, |bytes| writer.write_data(bytes).expect("room"));
     };
     row.race(Box::new(ours), Box::new(rust));
+    let (buffer, block) = memory.into_inner();
+    assert!(made || buffer[HEADER..].chunks(size).all(|written| written == block.bytes));
 }
 
 pub fn data_calls(table: &Table) {

@@ -2,7 +2,7 @@
 //!
 //!     bench [PART..]    the rows whose name has one of the parts in it, or all
 //!
-//! Every buffer is written once before anything is timed and is not cleared between windows; each side has its own.
+//! Every buffer is written once before anything is timed and is not cleared between windows; each side has its own, but for data calls.
 
 #[path = "../bench/blocks.rs"]
 mod blocks;
