@@ -101,8 +101,8 @@ enum caf_strict_place {
     CAF_STRICT_PLACES = 13
 };
 
-/* The strict reading of a file. It looks at chunk headers and at the body of `desc`, and at no other
- * byte of the file. Done: writes out[0..12]. Refused: writes out[CAF_STRICT_CHUNKS] and nothing
+/* The strict reading of a file. It looks at the file header, at chunk headers and at the body of `desc`,
+ * and at no other byte of the file. Done: writes out[0..12]. Refused: writes out[CAF_STRICT_CHUNKS] and nothing
  * else. With fewer than CAF_STRICT_PLACES places: CAF_NO_ROOM, and writes nothing. It never writes
  * after out[12], and not to the file.
  *

@@ -4,3 +4,4 @@ pub mod Resume
 pub mod Settings
 pub mod Samples
 pub mod Exactly
+pub mod Calls

@@ -1,6 +1,6 @@
 -- 01, Numbers given back: the calls answer by the rows and by no others. So one row applies to every call, and the rows that apply to one
 -- call give one number.
-use Prim.Native.Nat.{ℕ}
+use Prim.Native.Nat.{ℕ, _*_}
 use mathlib.Core.Path.{_≡_}
 use mathlib.Core.List.{List}
 use mathlib.Core.Logic.{_↔_}
@@ -8,14 +8,16 @@ use lib.ListN.{length}
 use lib.IntN.{ℤ}
 use lib.Ieee.{Float}
 use Rattle.format.specs.Setting.{formatNumber}
+use Rattle.format.specs.declared.PCMDataType.{PCMDataType}
+use Rattle.format.specs.declared.Endianness.{Endianness}
 use Rattle.layout.specs.Setting.{tagNumber, labelsNumber}
 use Rattle.pcm.specs.Packing.{packNumber}
 use Rattle.pcm.specs.Unpacking.{unpackNumber}
-use Rattle.writer.specs.Header.{headerNumber}
-use Rattle.writer.specs.Data.{dataNumber, samplesNumber}
-use Rattle.writer.specs.Finish.{finishNumber}
-use Rattle.writer.specs.Resume.{resumed}
-use Rattle.writer.specs.Settings.{settingNumber, first}
+use Rattle.writer.specs.Header.{headerNumber, headerCall}
+use Rattle.writer.specs.Data.{dataNumber, dataCall, samplesNumber, samplesCall}
+use Rattle.writer.specs.Finish.{finishNumber, finishCall}
+use Rattle.writer.specs.Resume.{resumed, resumeCall}
+use Rattle.writer.specs.Settings.{settingNumber, first, formatCall, tagCall, labelsCall, configureCall}
 use Rattle.writer.specs.declared.CAFWriter.{CAFWriter}
 use Rattle.given.specs.Rows.{HeaderGives, DataGives, SamplesGives, FinishGives, ResumeGives, SettingGives, FormatGives, TagGives, LabelsGives, ConfigureGives, PackGives, UnpackGives}
 
@@ -32,3 +34,17 @@ pub record GivenExactly : Type 0 where
   pub configure : (rate : Float) (channels bits : ℕ) (ls : List ℕ) (number : ℕ) → (first (formatNumber rate channels bits) (labelsNumber ls channels) ≡ number) ↔ ConfigureGives rate channels bits ls number
   pub pack : (xs : List ℤ) (room number : ℕ) → (packNumber xs room ≡ number) ↔ PackGives (length xs) room number
   pub unpack : (bytes : List ℕ) (room number : ℕ) → (unpackNumber bytes room ≡ number) ↔ UnpackGives (length bytes) room number
+
+-- and these numbers are those that the calls themselves give
+pub record NumbersOfCalls : Type 0 where
+  pub header : (w : CAFWriter) (room : ℕ) → headerCall w room .number ≡ headerNumber w room
+  pub bytes : (w : CAFWriter) (room : ℕ) (bytes : List ℕ) → dataCall w room bytes .number ≡ dataNumber w room (length bytes)
+  pub samples : (w : CAFWriter) (room : ℕ) (xs : List ℤ) → samplesCall w room xs .number ≡ samplesNumber w room (3 * length xs)
+  pub finish : (w : CAFWriter) (room : ℕ) → finishCall w room .number ≡ finishNumber w room
+  pub resume : (buf : List ℕ) (len : ℕ) → resumeCall buf len .number ≡ resumed buf len .number
+  pub format : (w : CAFWriter) (rate : Float) (channels bits : ℕ) (t : PCMDataType) (e : Endianness)
+      → formatCall w rate channels bits t e .number ≡ settingNumber w (formatNumber rate channels bits)
+  pub tag : (w : CAFWriter) (t : ℕ) → tagCall w t .number ≡ settingNumber w (tagNumber t)
+  pub labels : (w : CAFWriter) (ls : List ℕ) (channels : ℕ) → labelsCall w ls channels .number ≡ settingNumber w (labelsNumber ls channels)
+  pub configure : (w : CAFWriter) (rate : Float) (channels bits : ℕ) (ls : List ℕ)
+      → configureCall w rate channels bits ls .number ≡ settingNumber w (first (formatNumber rate channels bits) (labelsNumber ls channels))

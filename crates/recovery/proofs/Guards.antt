@@ -33,6 +33,10 @@ calls-are-typed =
       samples = λ xs. tt;
       finish = tt;
       lend = λ more. tt;
+      no-call = tt;
+      one-more = λ c cs t u. (t, u);
+      no-session = tt;
+      next-session = λ lent calls stores cs t u. (t, u);
     }
 
 -- each call in its turn: configure, labels, header, samples, finish; then the bytes

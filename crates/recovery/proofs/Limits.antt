@@ -5,7 +5,7 @@ use Rattle.format.specs.Desc.{descBody, formatAt}
 use Rattle.layout.specs.Known.{knownLabel, knownTag}
 use Rattle.layout.specs.Chan.{chanBody}
 use Rattle.reading.specs.Step.{descAt, skipAt}
-use Rattle.reading.specs.Rules.{stepBy}
+use Rattle.reading.specs.Rules.{plainData, strictData, stepBy}
 use Rattle.reading.specs.Walk.{steps, walk}
 use Rattle.reading.specs.Plain.{plain}
 use Rattle.reading.specs.Strict.{strict}
@@ -14,5 +14,5 @@ use Rattle.recovery.specs.Figures.{allHold}
 use Rattle.recovery.specs.Limits.{limitRows}
 
 pub limits : T (allHold limitRows)
-unfolding ofBits toBits isNan ofFields odd span climb size descBody formatAt knownLabel knownTag chanBody descAt skipAt stepBy steps walk plain strict placesSound formatSound layoutSound soundAlone sound limitRows
+unfolding ofBits toBits isNan ofFields odd span climb size descBody formatAt knownLabel knownTag chanBody descAt skipAt plainData strictData stepBy steps walk plain strict placesSound formatSound layoutSound soundAlone sound limitRows
 limits = tt

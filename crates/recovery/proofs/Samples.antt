@@ -1,32 +1,28 @@
--- The rule of writer/specs/Settled holds at any time, and packed samples come back in the byte order that the file gives.
+-- The rule of kept/specs/Settled holds at any time, and packed samples come back in the byte order that the file gives.
 use mathlib.Core.Path.{_≡_, refl, sym, _∙_, ap}
 use mathlib.Core.Bool.{Bool, true, false, cond, not}
 use mathlib.Core.List.{List, [], _∷_, _++_, append-nil, append-assoc}
 use Prim.Native.Nat.{ℕ, _*_}
 use lib.Dec.{lit<}
-use lib.ListN.{length, take, drop, length-append}
+use lib.ListN.{length, take, drop}
 use lib.Seq.{take-at, drop-at}
 use lib.IntN.{ℤ}
 use Rattle.answers.specs.Numbers.{done, badWriter, headerAlready}
-use Rattle.byteorder.specs.Big.{bigBytes}
 use Rattle.format.specs.Flags.{endiannessOf, endiannessFor}
 use Rattle.format.specs.Setting.{pcmFormat, formatNumber}
-use Rattle.format.specs.declared.AudioFormat.{AudioFormat}
 use Rattle.format.specs.declared.PCMDataType.the-variants.{SignedInteger}
 use Rattle.format.specs.declared.Endianness.{Endianness}
 use Rattle.format.specs.declared.Endianness.the-variants.{BigEndian}
 use Rattle.layout.specs.Setting.{tagNumber, labelsNumber}
-use Rattle.layout.specs.declared.ChannelLayout.{ChannelLayout}
 use Rattle.layout.specs.declared.ChannelLayout.the-variants.{Tagged}
 use Rattle.pcm.specs.Packing.{sampleSize, packed}
 use Rattle.pcm.specs.Unpacking.{unpacked}
 use Rattle.pcm.proofs.Packed.{length-packed}
 use Rattle.pcm.proofs.RoundTrip.{round-trip-any}
-use Rattle.reading.specs.Types.{'data', editSize}
-use Rattle.reading.specs.Grammar.{front, chunkHeader, dataSize, dataChunk, bytesOf}
+use Rattle.reading.specs.Grammar.{bytesOf}
 use Rattle.writer.specs.Record.{labelsOf, withFormat, withLayout, withHeader, withData, asFinished}
 use Rattle.writer.specs.Sound.{soundAlone}
-use Rattle.header_bytes.specs.Made.{layoutChunks, made, headerBytes}
+use Rattle.header_bytes.specs.Made.{made}
 use Rattle.writer.specs.Outcome.{stores, unchanged}
 use Rattle.writer.specs.Header.{headerOf, headerNumber, headerCall}
 use Rattle.writer.specs.Data.{dataNumber, dataCall, samplesNumber, samplesCall}
@@ -36,7 +32,6 @@ use Rattle.kept.specs.Settled.{Settled}
 use Rattle.writer.specs.declared.CAFWriter.{CAFWriter}
 use Rattle.writer.proofs.Tests.{true-false, pass}
 use Rattle.writer.proofs.Allowed.{data-allowed}
-use Rattle.header_bytes.proofs.Made.{made-bytes}
 use Rattle.writer.proofs.Packing.{samples-data}
 use Rattle.reading.specs.Plain.{plain}
 use Rattle.writer.proofs.Facts.{in-room}
@@ -52,7 +47,7 @@ use Rattle.recovery.proofs.Formats.{Formats, formats-kept, run-formats}
 use Rattle.recovery.proofs.Session.{keeps, runs}
 use Rattle.recovery.proofs.Lent.{grown-file}
 use Rattle.recovery.proofs.Remaining.{begun-by}
-use Rattle.recovery.proofs.ReadBack.{found-as-written, read-back}
+use Rattle.recovery.proofs.ReadBack.{audio-there, found-as-written, read-back}
 use Rattle.recovery.proofs.Sessions.{begun-inv, begun-formats}
 
 -- the rule, of a session
@@ -176,15 +171,6 @@ arrived-more s [] = ([], sym (append-nil (s .arrived)))
 arrived-more s (call ∷ calls) =
     let p = arrived-more (doCall s call) calls in
     (brought s call ++ p .0, p .1 ∙ append-assoc (s .arrived) (brought s call) (p .0))
-
--- the data of a made file stand after its header
-audio-there : (isOpen : Bool) (f : AudioFormat) (layout : ChannelLayout) (ls audio : List ℕ) → drop (length (headerBytes f layout ls)) (bytesOf (made isOpen f layout ls audio)) ≡ audio
-unfolding headerBytes bytesOf
-audio-there isOpen f layout ls audio =
-    let pre = front f (layoutChunks layout ls) in
-    let head = chunkHeader 'data' (dataSize isOpen audio) ++ bigBytes editSize 0 in
-    let n = length (pre ++ dataChunk true 0 []) in
-    ap (drop n) (made-bytes isOpen f layout ls audio ∙ sym (append-assoc pre head audio)) ∙ drop-at (pre ++ head) audio n (length-append pre head ∙ sym (length-append pre (dataChunk true 0 [])))
 
 payload-there : (s : Session) → Inv s → s .writer .«has_header» ≡ true → drop (s .writer .«data_start») (fileOf (resting s)) ≡ s .arrived
 payload-there s i h =

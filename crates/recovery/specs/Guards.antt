@@ -10,7 +10,7 @@ use Rattle.format.specs.declared.PCMDataType.{PCMDataType}
 use Rattle.format.specs.declared.Endianness.{Endianness}
 use Rattle.layout.specs.Labels as label
 use Rattle.reading.specs.Claims.{Bytes}
-use Rattle.recovery.specs.Calls.{Call, set, format, tag, labels, configure, header, bytes, samples, finish, lend, Numbers32, TypedCall}
+use Rattle.recovery.specs.Calls.{Call, set, format, tag, labels, configure, header, bytes, samples, finish, lend, Numbers32, TypedCall, TypedCalls}
 use Rattle.recovery.specs.Cut.{Remains}
 use Rattle.recovery.specs.Sessions.{CutSession, TypedSessions, leftBy}
 use Rattle.recovery.specs.Demand.{IsShort, IsWhole, Holds, BilledRight}
@@ -30,6 +30,12 @@ pub record CallsAreTyped : Type 0 where
   pub samples : (xs : List ℤ) → TypedCall (samples xs)
   pub finish : TypedCall finish
   pub lend : (more : List ℕ) → TypedCall (lend more)
+  -- and such calls, in any number, are all that a session needs, and such sessions, in any number, all that a list of them needs
+  pub no-call : TypedCalls []
+  pub one-more : (c : Call) (cs : List Call) → TypedCall c → TypedCalls cs → TypedCalls (c ∷ cs)
+  pub no-session : TypedSessions []
+  pub next-session : (lent : List ℕ) (calls : List Call) (stores : ℕ) (cs : List CutSession) → TypedCalls calls → TypedSessions cs
+      → TypedSessions (record { lent = lent; calls = calls; stores = stores } ∷ cs)
 
 -- document 01's example with its labels exchanged, its finish cut after five stores; then a session that dies in its data
 abbrev pub exampleSessions : List CutSession

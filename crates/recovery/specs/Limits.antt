@@ -3,8 +3,9 @@
 use Prim.Native.Nat.{ℕ}
 use mathlib.Core.Bool.{Bool, true, false, not}
 use mathlib.Core.List.{List, [], _∷_, _++_}
-use lib.ListN.{replicate}
+use lib.ListN.{replicate, take}
 use lib.Dec.{eqb}
+use Rattle.byteorder.specs.Big.{bigBytes}
 use Rattle.byteorder.specs.Same.{exactly}
 use Rattle.byteorder.specs.Rate.{rateOf}
 use Rattle.format.specs.Desc.{descBody}
@@ -18,15 +19,15 @@ use Rattle.layout.specs.Chan.{chanBody}
 use Rattle.layout.specs.Known.{knownLabel, knownTag}
 use Rattle.layout.specs.Setting.{padded, labelsNumber}
 use Rattle.layout.specs.declared.ChannelLayout.the-variants.{NoLayout, Tagged, Described}
-use Rattle.reading.specs.Answers.{plainNumber, strictNumber}
+use Rattle.reading.specs.Answers.{plainNumber, strictNumber, strictCount}
 use Rattle.reading.specs.Grammar.{fileHeader, chunkHeader, chunk}
 use Rattle.reading.specs.Plain.{plain}
 use Rattle.reading.specs.Strict.{strict}
-use Rattle.reading.specs.Types.{'desc'}
+use Rattle.reading.specs.Types.{'desc', 'data'}
 use Rattle.writer.specs.Record.{fresh, withFormat, withPlaces, withLayout, asFinished, statsOf}
 use Rattle.writer.specs.Sound.{soundAlone, sound}
 use Rattle.writer.specs.declared.CAFWriter.{CAFWriter}
-use Rattle.recovery.specs.Figures.{rate48000}
+use Rattle.recovery.specs.Figures.{rate48000, isClosedWith}
 
 -- a record without format and layout: with a header or without, and its places
 abbrev pub placed : Bool → ℕ → ℕ → ℕ → ℕ → CAFWriter
@@ -51,6 +52,13 @@ inOrder e = pcmFormat rate48000 2 24 SignedInteger e
 -- a file header, a description, and the header of a chunk of this size
 abbrev pub skipping : ℕ → List ℕ
 skipping size = fileHeader ++ chunk 'desc' (descBody (inOrder BigEndian)) ++ chunkHeader (0x66 ∷ 0x72 ∷ 0x65 ∷ 0x65 ∷ []) size
+
+-- a file header, a description, and a data chunk of this size with these bytes after its edit count: 68 bytes, and those
+abbrev pub sized : ℕ → List ℕ → List ℕ
+sized size after = fileHeader ++ chunk 'desc' (descBody (inOrder BigEndian)) ++ chunkHeader 'data' size ++ bigBytes 4 0 ++ after
+
+abbrev pub strictOf : List ℕ → ℕ
+strictOf s = strictNumber (strict s)
 
 unfoldable pub limitRows : List Bool
 limitRows =
@@ -104,6 +112,28 @@ limitRows =
     eqb (plainNumber (plain (skipping 9223372036854775808))) 4 ∷
     eqb (strictNumber (strict (skipping 9223372036854775807))) 1 ∷
     eqb (strictNumber (strict (skipping 9223372036854775808))) 4 ∷
+    -- the file header has 8 bytes; 4 make a type, 12 a chunk header, 32 the body of a `desc`
+    eqb (plainNumber (plain (take 7 (sized 4 [])))) 1 ∷
+    eqb (plainNumber (plain (take 8 (sized 4 [])))) 3 ∷
+    eqb (plainNumber (plain (take 11 (sized 4 [])))) 3 ∷
+    eqb (plainNumber (plain (take 12 (sized 4 [])))) 1 ∷
+    eqb (strictCount (strict (take 19 (sized 4 [])))) 0 ∷
+    eqb (strictCount (strict (take 20 (sized 4 [])))) 1 ∷
+    eqb (strictOf (take 51 (sized 4 []))) 1 ∷
+    eqb (strictOf (take 52 (sized 4 []))) 3 ∷
+    -- the edit count has 4; so no data are smaller, and none go past the end; -1 is the only negative size
+    eqb (strictOf (take 67 (sized 4 []))) 1 ∷
+    eqb (strictOf (sized 3 [])) 4 ∷
+    isClosedWith (strict (sized 4 [])) 0 ∷
+    eqb (strictOf (sized 5 [])) 8 ∷
+    eqb (strictOf (sized 9223372036854775807 [])) 8 ∷
+    eqb (strictOf (sized 9223372036854775808 [])) 4 ∷
+    eqb (strictOf (sized 18446744073709551614 [])) 4 ∷
+    eqb (strictOf (sized 18446744073709551615 [])) 0 ∷
+    -- after the data: no byte, a cut chunk header of 1 to 11, a chunk
+    eqb (strictOf (sized 4 (0 ∷ []))) 1 ∷
+    eqb (strictOf (sized 4 (replicate 11 0))) 1 ∷
+    isClosedWith (strict (sized 4 (replicate 12 0))) 0 ∷
     -- stats: the data count, and whether the record is finished
     eqb (statsOf (placed true 56 68 70 2) .«data_count») 2 ∷
     not (statsOf (placed true 56 68 70 2) .finished) ∷

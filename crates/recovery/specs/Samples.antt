@@ -18,7 +18,7 @@ use Rattle.recovery.specs.Session.{Session, isAccepted, doCall, run}
 use Rattle.recovery.specs.Cut.{resting, fileOf}
 use Rattle.recovery.specs.Sessions.{CutSession, TypedSessions, begins}
 
--- the rule of writer/specs/Settled holds at any time, in the first session and in any later one
+-- the rule of kept/specs/Settled holds at any time, in the first session and in any later one
 abbrev pub AlwaysSettled : Type 0
 AlwaysSettled =
     (lent : List ℕ) (earlier : List CutSession) (calls : List Call) → TypedSessions earlier → TypedCalls calls

@@ -1,0 +1,47 @@
+-- The number of a call is that of its definition: refused with it, or done.
+use mathlib.Core.Path.{_≡_, refl, sym, _∙_, ap}
+use mathlib.Core.Bool.{Bool, true, false, cond}
+use mathlib.Core.List.{List}
+use Prim.Native.Nat.{ℕ, _*_}
+use lib.ListN.{length}
+use lib.IntN.{ℤ}
+use lib.Dec.{eqb}
+use borrow.Author.Tests.{eqb-true}
+use Rattle.answers.specs.Numbers.{done}
+use Rattle.pcm.specs.Packing.{packed}
+use Rattle.pcm.proofs.Packed.{length-packed}
+use Rattle.writer.specs.Outcome.{Outcome, unchanged, unlessRefused, stores}
+use Rattle.writer.specs.Record.{asFinished}
+use Rattle.writer.specs.Header.{headerNumber, headerCall}
+use Rattle.writer.specs.Data.{dataNumber, dataCall, samplesNumber, samplesCall}
+use Rattle.writer.specs.Finish.{finishNumber, finalSize, finishCall}
+use Rattle.writer.specs.Resume.{resumed, resumeCall}
+use Rattle.writer.specs.Settings.{formatCall, tagCall, labelsCall, configureCall}
+use Rattle.writer.specs.declared.CAFWriter.{CAFWriter}
+use Rattle.given.specs.Claims.{NumbersOfCalls}
+
+its-number : (n : ℕ) (w : CAFWriter) (o : Outcome) → o .number ≡ done → unlessRefused n w o .number ≡ n
+its-number n w o d = go (eqb n done) refl
+  where
+    go : (b : Bool) → eqb n done ≡ b → cond b o (unchanged n w) .number ≡ n
+    go true e = d ∙ sym (eqb-true n done e)
+    go false e = refl
+
+finish-done : (b : Bool) (w : CAFWriter) → cond b (unchanged done w) (stores (w .«size_position») (finalSize w) (asFinished w)) .number ≡ done
+finish-done true w = refl
+finish-done false w = refl
+
+pub numbers-of-calls : NumbersOfCalls
+unfolding headerCall dataCall samplesCall finishCall resumeCall formatCall tagCall labelsCall configureCall
+numbers-of-calls =
+    record {
+      header = λ w room. its-number _ w _ refl;
+      bytes = λ w room bytes. its-number _ w _ refl;
+      samples = λ w room xs. its-number _ w _ refl ∙ ap (samplesNumber w room) (length-packed (w .endianness) xs);
+      finish = λ w room. its-number _ w _ (finish-done (w .finished) w);
+      resume = λ buf len. its-number _ _ _ refl;
+      format = λ w rate channels bits t e. its-number _ w _ refl;
+      tag = λ w t. its-number _ w _ refl;
+      labels = λ w ls channels. its-number _ w _ refl;
+      configure = λ w rate channels bits ls. its-number _ w _ refl;
+    }
