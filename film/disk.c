@@ -52,6 +52,24 @@ static enum film_error lock(int fd, int flags, struct film_fault *fault) {
     return fault_of(fault, FILM_SYSTEM, errno);
 }
 
+/* Other programs take no lock. But a lease for reading is given only where nobody has the file open for
+ * writing; where none can be had, since the file is another user's or its file system has none, nothing is
+ * known. It is given back at once; should someone want to write in between, SIGURG comes, which is ignored
+ * unless the caller waits for it. */
+static bool is_written(const char *path) {
+    int fd = open(path, O_RDONLY | O_CLOEXEC | O_NONBLOCK | O_NOCTTY);
+    bool written;
+
+    if (fd < 0)
+        return false;
+    fcntl(fd, F_SETSIG, SIGURG);
+    written = fcntl(fd, F_SETLEASE, F_RDLCK) < 0 && errno == EAGAIN;
+    if (!written)
+        fcntl(fd, F_SETLEASE, F_UNLCK);
+    close(fd);
+    return written;
+}
+
 enum film_error film_disk_open(const char *path, int flags, int *fd, struct film_fault *fault) {
     struct stat about;
     int got;
@@ -59,6 +77,8 @@ enum film_error film_disk_open(const char *path, int flags, int *fd, struct film
     /* what is no file is not even opened: that would let the writer of a FIFO go on, or rewind a tape */
     if (!(flags & O_CREAT) && regular(stat(path, &about), &about, fault) != FILM_DONE)
         return fault->error;
+    if (!(flags & O_CREAT) && is_written(path))
+        return fault_of(fault, FILM_BUSY, 0);
     /* the name may stand for something else by now: O_NONBLOCK, so that no FIFO is waited for */
     got = above_the_standard_streams(open(path, flags | O_CLOEXEC | O_NONBLOCK | O_NOCTTY, 0666));
     if (got < 0)
@@ -133,6 +153,10 @@ int film_disk_length(int fd, uint64_t *length) {
 
     if (fstat(fd, &about) < 0)
         return -1;
+    if (about.st_nlink == 0) {
+        errno = ENOENT;
+        return -1;
+    }
     *length = (uint64_t)about.st_size;
     return 0;
 }

@@ -6,6 +6,7 @@
 #include <fcntl.h>
 #include <stdio.h>
 #include <string.h>
+#include <sys/file.h>
 #include <unistd.h>
 
 #include "caf_names.h"
@@ -115,6 +116,14 @@ static enum film_error ready_with_header(struct film *film) {
     return film->record[CAF_RECORD_HAS_HEADER] ? FILM_DONE : film_write_header(film);
 }
 
+enum film_error film_unchanged(struct film *film) {
+    uint64_t length;
+
+    if (film_disk_length(film->fd, &length) < 0)
+        return film_stop(film, FILM_SYSTEM, errno);
+    return length == film->length ? FILM_DONE : film_stop(film, FILM_CHANGED, 0);
+}
+
 /* A call of the library that appends `count` elements. */
 typedef uint32_t appending(uint64_t *record, uint8_t *base, size_t room, const void *from, size_t count);
 
@@ -148,7 +157,7 @@ static enum film_error append(struct film *film, appending *call, const void *fr
     const uint8_t *next = from;
     const size_t most = FILM_PIECE / width;
 
-    if (ready_with_header(film) != FILM_DONE)
+    if (ready_with_header(film) != FILM_DONE || film_unchanged(film) != FILM_DONE)
         return film->fault.error;
     while (count > most) {
         if (append_piece(film, call, next, most, most * width) != FILM_DONE)
@@ -165,14 +174,6 @@ enum film_error film_append(struct film *film, const void *bytes, size_t count) 
 
 enum film_error film_append_samples(struct film *film, const int32_t *samples, size_t count) {
     return append(film, append_samples, samples, count, sizeof *samples, 3);
-}
-
-enum film_error film_unchanged(struct film *film) {
-    uint64_t length;
-
-    if (film_disk_length(film->fd, &length) < 0)
-        return film_stop(film, FILM_SYSTEM, errno);
-    return length == film->length ? FILM_DONE : film_stop(film, FILM_CHANGED, 0);
 }
 
 enum film_error film_finish(struct film *film) {
@@ -201,6 +202,9 @@ enum film_error film_close(struct film *film) {
 
     film_window_close(&film->window);
     film->fd = 0;
+    /* a child of this process may still have the file, and would keep the lock */
+    if (fd > 0)
+        flock(fd, LOCK_UN);
     /* a close that a signal interrupts has closed */
     if (fd > 0 && close(fd) < 0 && errno != EINTR)
         return fail(film, FILM_SYSTEM, 0, errno);

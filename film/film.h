@@ -16,7 +16,7 @@
  * at any moment and in any session, film_open or film_recover finds every byte whose append had returned, and
  * of an append that was under way the first so many bytes. Memory stays flat, some 2 MiB, however long the
  * film; of address space it takes as much as the film is long, so that a limit on that (ulimit -v) is one on
- * films.
+ * films. To resume a film takes the pages of its chunk headers besides, at most 64 MiB (else ENOMEM).
  *
  * What is assumed. If the process dies, nothing: what a write gave to the system stays. If the machine dies:
  * that a file does not become longer before the bytes that make it longer are on the disk, and that the eight
@@ -27,8 +27,13 @@
  * appended, between the data and the size of a finish, and after it; film_sync makes appended data outlive
  * the machine. That the name of a new film does too is for the caller to see to, by an fsync of its folder.
  *
- * A film open for writing is locked (flock). That binds film_open and film_recover, not other programs: a
- * file that someone else made longer or shorter meanwhile is not finished (FILM_CHANGED).
+ * A film open for writing is locked (flock). That binds film_open and film_recover, not other programs. Those
+ * two ask besides whether any program has the file open for writing, as far as the system says (FILM_BUSY): a
+ * file that is still being copied must not be closed. And every append and finish looks whether the file is as
+ * long as what was written (FILM_CHANGED) and has a name (FILM_SYSTEM with ENOENT).
+ *
+ * What arrived may end within a frame, after a kill or on a full disk. Whoever resumes goes on with the very
+ * next byte, film_arrived, by film_append, before whole samples are appended again.
  *
  * A call must not be made on a film while another thread makes one on it. Different films are independent of
  * each other. A caller must have 8 KiB of stack left, for film_recover 32. */
@@ -52,7 +57,7 @@ enum film_error {
     FILM_DONE = 0,
     FILM_REFUSED = 1,    /* the library refused the call: `number` says why */
     FILM_SYSTEM = 2,     /* a system call failed: `system` is its errno (ENOSPC, EFBIG, EACCES..) */
-    FILM_BUSY = 3,       /* someone is writing or recovering this film */
+    FILM_BUSY = 3,       /* someone is writing or recovering this film, or has the file open for writing */
     FILM_NOT_A_FILE = 4, /* the name of a folder, a FIFO, a device */
     FILM_CHANGED = 5,    /* another program made the file longer or shorter */
     FILM_STOPPED = 6     /* an earlier call failed, or the film is not open */

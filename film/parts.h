@@ -2,9 +2,9 @@
 #ifndef FILM_PARTS_H
 #define FILM_PARTS_H
 
-/* flock, pread and MAP_NORESERVE beside C11: before any header of the system */
-#ifndef _DEFAULT_SOURCE
-#define _DEFAULT_SOURCE
+/* flock, pread, MAP_NORESERVE and leases beside C11: before any header of the system */
+#ifndef _GNU_SOURCE
+#define _GNU_SOURCE
 #endif
 
 #include "film.h"
@@ -49,7 +49,7 @@ enum film_error film_disk_open(const char *path, int flags, int *fd, struct film
  * and where a read comes to the end of the file, with errno 0. */
 size_t film_disk_store(int fd, const uint8_t *bytes, size_t n, uint64_t at);
 size_t film_disk_load(int fd, uint8_t *bytes, size_t n, uint64_t at);
-/* 0, or -1 and an errno. */
+/* 0, or -1 and an errno. A file that was removed, and has no name any more, has no length: ENOENT. */
 int film_disk_length(int fd, uint64_t *length);
 int film_disk_sync(int fd);
 

@@ -88,10 +88,14 @@ static int recover(const char *name, bool dry_run) {
     }
 }
 
+static const char usage[] = "usage: recover [--dry-run] [--] FILE..\n";
+
 int main(int argc, char **argv) {
     bool dry_run = false;
     int i = 1, status = 0;
 
+    if (argc == 2 && strcmp(argv[1], "--help") == 0)
+        return fputs(usage, stdout) < 0 || fclose(stdout) != 0 ? 2 : 0;
     if (i < argc && strcmp(argv[i], "--dry-run") == 0) {
         dry_run = true;
         i++;
@@ -101,7 +105,7 @@ int main(int argc, char **argv) {
     else if (i < argc && argv[i][0] == '-' && argv[i][1] != '\0')
         i = argc;
     if (i >= argc) {
-        fputs("usage: recover [--dry-run] [--] FILE..\n", stderr);
+        fputs(usage, stderr);
         return 2;
     }
     /* a line tells what was done to a file: none is to be lost if this process is killed */

@@ -4,6 +4,7 @@
 #include <errno.h>
 #include <fcntl.h>
 #include <string.h>
+#include <unistd.h>
 
 /* The eight bytes of the size field: as they were, and as resume and finish store them. */
 struct fields {
@@ -121,6 +122,8 @@ static enum film_error recover(struct film *film, const char *path, bool dry_run
     }
     if (plan(film, report, &fields) != FILM_DONE)
         return film->fault.error;
+    if (dry_run && faccessat(AT_FDCWD, path, W_OK, AT_EACCESS) < 0)
+        return film_stop(film, FILM_SYSTEM, errno);
     if (dry_run)
         return FILM_DONE;
     if (denied != 0)

@@ -11,22 +11,33 @@
 
 enum { FILE_HEADER = 8, CHUNK_HEADER = 12, DESCRIPTION = 32 };
 
+/* So many bytes of memory the pages of chunk headers may take. Room that was never written reads as empty
+ * chunks, so that a file of 4 KiB on the disk could ask for all memory there is. */
+static const uint64_t most_headers = 1 << 26;
+
 static uint64_t least(uint64_t a, uint64_t b) {
     return a < b ? a : b;
 }
 
-/* Reads the pages of n bytes from `at`, as far as the file goes and but for those before `have`, up to which
- * all was read. */
-static enum film_error bring(struct film *film, uint64_t at, uint64_t n, uint64_t *have) {
+/* Pages that were read: all that are needed before `end`, and how many bytes. */
+struct brought {
+    uint64_t end, bytes;
+};
+
+/* Reads the pages of n bytes from `at`, as far as the file goes and but for those that were read. */
+static enum film_error bring(struct film *film, uint64_t at, uint64_t n, struct brought *brought) {
     uint64_t from = film_page_before(at), to = least(film_page_after(at + n), film->length);
 
-    if (from < *have)
-        from = *have;
+    if (from < brought->end)
+        from = brought->end;
     if (to <= from)
         return FILM_DONE;
+    brought->bytes += to - from;
+    if (brought->bytes > most_headers)
+        return film_stop(film, FILM_SYSTEM, ENOMEM);
     if (film_window_add(&film->window, from, to - from) < 0)
         return film_stop(film, FILM_SYSTEM, errno);
-    *have = film_page_after(to);
+    brought->end = film_page_after(to);
     return film_load(film, from, film->window.base + from, to - from);
 }
 
@@ -41,12 +52,13 @@ static uint64_t body_size(const uint8_t *header) {
  * to say. Should it look elsewhere it would meet a page that was not lent, and no byte that is not the
  * file's. */
 static enum film_error bring_headers(struct film *film) {
-    uint64_t at = FILE_HEADER, have = 0, size;
+    struct brought brought = {0, 0};
+    uint64_t at = FILE_HEADER, size;
 
-    if (bring(film, 0, FILE_HEADER, &have) != FILM_DONE)
+    if (bring(film, 0, FILE_HEADER, &brought) != FILM_DONE)
         return film->fault.error;
     while (at <= film->length) {
-        if (bring(film, at, CHUNK_HEADER + DESCRIPTION, &have) != FILM_DONE)
+        if (bring(film, at, CHUNK_HEADER + DESCRIPTION, &brought) != FILM_DONE)
             return film->fault.error;
         if (film->length - at < CHUNK_HEADER || memcmp(film->window.base + at, "data", 4) == 0)
             break;
