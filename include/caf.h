@@ -46,7 +46,11 @@ enum caf_number {
     CAF_TOO_LONG = 21,
     CAF_BAD_LAYOUT = 22,
     CAF_SECOND_DATA = 23,
-    CAF_TAIL_AFTER_DATA = 24
+    CAF_TAIL_AFTER_DATA = 24,
+    CAF_NOT_CLOSED = 25,
+    CAF_NO_GROUP = 26,
+    CAF_WRONG_WIDTH = 27,
+    CAF_DATA_BEGUN = 33
 };
 
 /* Bytes of stack that a caller must have left, on x86-64 and on aarch64. tests/stack prints what each
@@ -265,6 +269,50 @@ enum caf_description_place {
 uint32_t caf_read_chan(const uint8_t *body, size_t body_len, uint32_t channels,
                        uint32_t *out, size_t out_len, uint64_t *said, size_t said_len);
 
+/* ---- the overview that a file has
+ *
+ *     number = caf_read_strict(file, file_len, info, CAF_STRICT_PLACES);
+ *     caf_find_overview(file, file_len, place, CAF_OVERVIEW_PLACES);
+ *     if (number == CAF_DONE && place[CAF_OVERVIEW_FOUND])
+ *         number = caf_read_overview(file + place[CAF_OVERVIEW_START], place[CAF_OVERVIEW_SIZE],
+ *                                    (uint32_t)info[CAF_STRICT_CHANNELS], pairs, pairs_len, said, CAF_PICTURE_PLACES);
+ */
+
+/* Places in the array that caf_find_overview fills. */
+enum caf_overview_place {
+    CAF_OVERVIEW_FOUND = 0, /* 1, or 0 where there is none: then the other two are 0 as well */
+    CAF_OVERVIEW_START = 1, /* where in the file the body stands */
+    CAF_OVERVIEW_SIZE = 2,  /* how many bytes it has */
+    CAF_OVERVIEW_PLACES = 3
+};
+
+/* The first `ovvw` after the data. It goes by the sizes of chunk headers, looks at no other byte and
+ * refuses no file: whether the bytes are one is caf_read_strict's to say. A place that it finds lies
+ * within the file; a chunk that runs past the end, as open data do, ends the search. Writes out[0..2].
+ * With fewer than CAF_OVERVIEW_PLACES places: CAF_NO_ROOM, and writes nothing.
+ *
+ * Numbers: 14. */
+uint32_t caf_find_overview(const uint8_t *file, size_t file_len, uint64_t *out, size_t out_len);
+
+/* Places in the array `said` of caf_read_overview. */
+enum caf_picture_place {
+    CAF_PICTURE_EDITS = 0,  /* the edit count of the data that it was made of */
+    CAF_PICTURE_FRAMES = 1, /* frames per overview sample */
+    CAF_PICTURE_GROUPS = 2, /* overview samples for each channel */
+    CAF_PICTURE_PLACES = 3
+};
+
+/* What the body of an `ovvw` shows. `channels` is the count of channels in `desc`. Done: writes
+ * said[0..2], and to out for each overview sample and each channel the least and the greatest sample;
+ * the places after them keep their contents. Refused: writes nothing. In this order:
+ *   CAF_NO_ROOM    fewer than CAF_PICTURE_PLACES places in `said`;
+ *   CAF_CUT_SHORT  a body of fewer than 8 bytes, no channels, or a group that is not whole;
+ *   CAF_NO_ROOM    fewer places in `out` than the body has numbers: (body_len - 8) / 2.
+ *
+ * Numbers: 14, 1, 14. */
+uint32_t caf_read_overview(const uint8_t *body, size_t body_len, uint32_t channels,
+                           int16_t *out, size_t out_len, uint64_t *said, size_t said_len);
+
 /* ---- the writer
  *
  * The caller keeps the writer record, CAF_RECORD numbers, and the buffer that the file is written to.
@@ -300,10 +348,12 @@ enum caf_record_place {
     CAF_RECORD_FILE_LEN = 79,
     CAF_RECORD_DATA_COUNT = 80,
     CAF_RECORD_FINISHED = 81,    /* 1 or 0 */
-    CAF_RECORD = 82
+    CAF_RECORD_GROUP = 82,       /* frames per sample of the overview, 32 bits; 0 where none are chosen */
+    CAF_RECORD_OVERVIEW = 83,    /* 1 where an overview was appended, else 0 */
+    CAF_RECORD = 84
 };
 
-/* A fresh record. Writes record[0..81]. An array of another length: CAF_BAD_WRITER, and writes
+/* A fresh record. Writes record[0..83]. An array of another length: CAF_BAD_WRITER, and writes
  * nothing.
  *
  * Numbers: 19. */
@@ -342,8 +392,8 @@ enum caf_resume_counted_place {
 uint32_t caf_resume_counted(uint8_t *buf, size_t buf_len, uint64_t file_len, uint64_t n,
                             uint64_t *out, size_t out_len);
 
-/* Settings: they write to the record alone. Once a header stands, also that of a resumed file, they
- * are refused: CAF_HEADER_ALREADY. A later setting replaces an earlier one. */
+/* Settings: they write to the record alone. Once a header stands, also that of a resumed file, those of
+ * format and layout are refused: CAF_HEADER_ALREADY. A later setting replaces an earlier one. */
 
 /* Sets the format: id `lpcm`, one frame per packet, rate, channels and bits as given, flags and byte
  * order by the last two. The layout stays as it is.
@@ -379,6 +429,13 @@ uint32_t caf_configure_format(uint64_t *record, size_t record_len,
                               double rate, uint32_t channels, uint32_t bits,
                               const uint32_t *labels, size_t label_count);
 
+/* Chooses the frames per sample of the overview that caf_append_overview makes: any number, 0 for none.
+ * A header does not refuse it, data do: CAF_DATA_BEGUN once this session has taken any. A resumed file
+ * has no choice until one is made.
+ *
+ * Numbers: 19, 33. */
+uint32_t caf_set_overview_group(uint64_t *record, size_t record_len, uint32_t group);
+
 /* Stores the header from buf[0] on. A buffer of CAF_LONGEST_HEADER bytes has room for any.
  *
  * Numbers: 19, 10, 12, 13, 14. */
@@ -401,6 +458,16 @@ uint32_t caf_write_samples(uint64_t *record, size_t record_len, uint8_t *buf, si
  *
  * Numbers: 19, 11. */
 uint32_t caf_finish(uint64_t *record, size_t record_len, uint8_t *buf, size_t buf_len);
+
+/* Stores the overview of the data at the end of the finished file: CAF's `ovvw` chunk, for each group of
+ * frames and each channel the least and the greatest sample as 16 bits. The last group may be short. It
+ * takes 20 bytes, and 4 for each channel of each group. The samples have to be whole frames of 24-bit
+ * integers, three bytes for each channel, else CAF_WRONG_WIDTH; CAF_NOT_CLOSED before caf_finish,
+ * CAF_TAIL_AFTER_DATA for a second overview, CAF_NO_GROUP where no frames are chosen. The file is no
+ * longer resumed afterwards: caf_resume answers CAF_TAIL_AFTER_DATA.
+ *
+ * Numbers: 19, 11, 25, 24, 26, 27, 14. */
+uint32_t caf_append_overview(uint64_t *record, size_t record_len, uint8_t *buf, size_t buf_len);
 
 /* Places in the array that caf_stats fills. */
 enum caf_stats_place {

@@ -133,6 +133,10 @@ static inline const char *caf_number_name(uint32_t number) {
     case CAF_BAD_LAYOUT: return "BadLayout";
     case CAF_SECOND_DATA: return "SecondData";
     case CAF_TAIL_AFTER_DATA: return "TailAfterData";
+    case CAF_NOT_CLOSED: return "NotClosed";
+    case CAF_NO_GROUP: return "NoGroup";
+    case CAF_WRONG_WIDTH: return "WrongWidth";
+    case CAF_DATA_BEGUN: return "DataBegun";
     default: return "unknown number";
     }
 }
@@ -165,6 +169,10 @@ static inline const char *caf_number_words(uint32_t number) {
     case CAF_BAD_LAYOUT: return "the chan chunk contradicts itself or the count of channels";
     case CAF_SECOND_DATA: return "there is a second data chunk";
     case CAF_TAIL_AFTER_DATA: return "other chunks follow the data, so that nothing can be appended";
+    case CAF_NOT_CLOSED: return "the file is not finished";
+    case CAF_NO_GROUP: return "no frames per overview sample are chosen";
+    case CAF_WRONG_WIDTH: return "the samples are not 24-bit integers in whole frames";
+    case CAF_DATA_BEGUN: return "data were written already";
     default: return "unknown number";
     }
 }

@@ -25,6 +25,11 @@ enum fault {
     NO_FORMAT = 1 << 6,
     NOT_A_RATE = 1 << 7,
     PACKET = 1 << 8,
+    BEGUN = 1 << 20, /* data have come */
+    OPEN = 1 << 21,
+    TAILED = 1 << 22,
+    GROUP = 1 << 23, /* of no frames */
+    WIDTH = 1 << 24, /* of a sample */
     TAG = 1 << 9,
     MANY = 1 << 10, /* labels */
     LABEL = 1 << 11,
@@ -46,6 +51,11 @@ static uint32_t number_of(enum fault fault) {
     case NO_FORMAT: return CAF_NO_FORMAT;
     case NOT_A_RATE: return CAF_BAD_RATE;
     case PACKET: return CAF_PACKET_TOO_BIG;
+    case BEGUN: return CAF_DATA_BEGUN;
+    case OPEN: return CAF_NOT_CLOSED;
+    case TAILED: return CAF_TAIL_AFTER_DATA;
+    case GROUP: return CAF_NO_GROUP;
+    case WIDTH: return CAF_WRONG_WIDTH;
     case TAG: return CAF_BAD_TAG;
     case MANY: return CAF_TOO_MANY_LABELS;
     case LABEL: return CAF_BAD_LABEL;
@@ -178,6 +188,42 @@ static uint32_t finish_counted(unsigned faults) {
 static uint32_t stats(unsigned faults) {
     after_header(faults);
     return caf_stats(record, CAF_RECORD, out, places(faults, CAF_STATS_PLACES));
+}
+
+/* ---- the overview */
+
+static uint32_t set_overview_group(unsigned faults) {
+    make_record(NONE, true);
+    if (faults & BEGUN)
+        HOLDS(caf_write_data(record, CAF_RECORD, buf, ROOM, bytes, 6) == CAF_DONE);
+    if (faults & UNSOUND)
+        record[CAF_RECORD_HAS_HEADER] = 2;
+    return caf_set_overview_group(record, CAF_RECORD, 1);
+}
+
+static uint32_t append_overview(unsigned faults) {
+    HOLDS(caf_new(record, CAF_RECORD) == CAF_DONE);
+    HOLDS(caf_configure_format(record, CAF_RECORD, 48000.0, 2, faults & WIDTH ? 16 : 24, NULL, 0) == CAF_DONE);
+    HOLDS(caf_set_overview_group(record, CAF_RECORD, faults & GROUP ? 0 : 1) == CAF_DONE);
+    if (!(faults & NO_HEADER))
+        HOLDS(caf_write_header(record, CAF_RECORD, buf, ROOM) == CAF_DONE);
+    if (!(faults & (NO_HEADER | OPEN)))
+        HOLDS(caf_finish(record, CAF_RECORD, buf, ROOM) == CAF_DONE);
+    if (faults & TAILED)
+        record[CAF_RECORD_OVERVIEW] = 1;
+    if (faults & UNSOUND)
+        record[CAF_RECORD_HAS_HEADER] = 2;
+    return caf_append_overview(record, CAF_RECORD, buf, faults & SMALL ? record[CAF_RECORD_FILE_LEN] : ROOM);
+}
+
+static uint32_t find_overview(unsigned faults) { return caf_find_overview(NULL, 0, out, places(faults, CAF_OVERVIEW_PLACES)); }
+
+/* a body of one group of one channel */
+static uint32_t read_overview(unsigned faults) {
+    static const uint8_t body[8 + 4];
+    int16_t pair[2];
+
+    return caf_read_overview(body, faults & SHORT ? 7 : sizeof body, 1, pair, faults & SMALL ? 1 : 2, out, places(faults, CAF_PICTURE_PLACES));
 }
 
 /* ---- calls without a record, and those that make one */
@@ -367,6 +413,8 @@ static const struct row layouts[] = {
     {"caf_layout_for_labels", layout_for_labels, {PLACES}},
     {"caf_find_chan", find_chan, {PLACES}},
     {"caf_read_chan", read_chan, {PLACES, SHORT, LAYOUT, SMALL}},
+    {"caf_find_overview", find_overview, {PLACES}},
+    {"caf_read_overview", read_overview, {PLACES, SHORT, SMALL}},
     {"caf_new", new, {LENGTH}},
 };
 static const struct row writing[] = {
@@ -374,10 +422,12 @@ static const struct row writing[] = {
     {"caf_set_layout_tag", set_layout_tag, {UNSOUND, HEADER, TAG}},
     {"caf_set_layout_for_labels", set_layout_for_labels, {UNSOUND, HEADER, MANY, LABEL}},
     {"caf_configure_format", configure_format, {UNSOUND, HEADER, NOT_A_RATE, PACKET, MANY, LABEL}},
+    {"caf_set_overview_group", set_overview_group, {UNSOUND, BEGUN}},
     {"caf_write_header", write_header, {UNSOUND, FINISHED, HEADER, NO_FORMAT, SMALL}},
     {"caf_write_data", write_data, {UNSOUND, FINISHED, NO_HEADER, SMALL}},
     {"caf_write_samples", write_samples, {UNSOUND, FINISHED, NO_HEADER, NO_FORMAT, SMALL}},
     {"caf_finish", finish, {UNSOUND, NO_HEADER}},
+    {"caf_append_overview", append_overview, {UNSOUND, NO_HEADER, OPEN, TAILED, GROUP, WIDTH, SMALL}},
     {"caf_stats", stats, {PLACES, UNSOUND}},
     {"caf_write_header_counted", header_counted, {PLACES, UNSOUND, FINISHED, HEADER, NO_FORMAT, SMALL}},
     {"caf_write_data_counted", data_counted, {PLACES, UNSOUND, FINISHED, NO_HEADER, SMALL}},

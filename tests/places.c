@@ -101,7 +101,37 @@ static void resumed(void) {
     HOLDS(out[CAF_RESUME_COUNTED_STORES] == 5 && out[CAF_RESUME_COUNTED_FILE_LEN] == LENGTH && out[CAF_RESUME_COUNTED_CHUNKS] == CHUNKS);
 }
 
+/* ---- a film of its own: stereo, 24 bits, two frames, edit count 7, and an overview with a pair for each of them */
+
+enum { FRAMES_AT = 92, FRAMES_END = FRAMES_AT + 12, OVERVIEW = 20 + 2 * 2 * 4 };
+
+static uint8_t shown[FRAMES_END + OVERVIEW];
+
+static void overviewed(void) {
+    static const int32_t frames[4] = {256, -256, 512, -513};
+    static const uint32_t stereo[2] = {CAF_LABEL_LEFT, CAF_LABEL_RIGHT};
+    uint64_t place[CAF_OVERVIEW_PLACES], said[CAF_PICTURE_PLACES];
+    int16_t pairs[8];
+
+    HOLDS(caf_new(record, CAF_RECORD) == CAF_DONE && record[CAF_RECORD_GROUP] == 0 && record[CAF_RECORD_OVERVIEW] == 0);
+    HOLDS(caf_configure_format(record, CAF_RECORD, 48000.0, 2, 24, stereo, 2) == CAF_DONE);
+    HOLDS(caf_set_overview_group(record, CAF_RECORD, 1) == CAF_DONE && record[CAF_RECORD_GROUP] == 1);
+    HOLDS(caf_write_header(record, CAF_RECORD, shown, sizeof shown) == CAF_DONE && record[CAF_RECORD_DATA_START] == FRAMES_AT);
+    HOLDS(caf_write_samples(record, CAF_RECORD, shown, sizeof shown, frames, 4) == CAF_DONE);
+    HOLDS(caf_finish(record, CAF_RECORD, shown, sizeof shown) == CAF_DONE);
+    shown[FRAMES_AT - 1] = 7;
+    HOLDS(caf_append_overview(record, CAF_RECORD, shown, sizeof shown) == CAF_DONE);
+    HOLDS(record[CAF_RECORD_OVERVIEW] == 1 && record[CAF_RECORD_FILE_LEN] == sizeof shown);
+    HOLDS(caf_find_overview(shown, sizeof shown, place, CAF_OVERVIEW_PLACES) == CAF_DONE);
+    HOLDS(place[CAF_OVERVIEW_FOUND] == 1 && place[CAF_OVERVIEW_START] == FRAMES_END + 12 && place[CAF_OVERVIEW_SIZE] == OVERVIEW - 12);
+    HOLDS(caf_read_overview(shown + FRAMES_END + 12, OVERVIEW - 12, 2, pairs, 8, said, CAF_PICTURE_PLACES) == CAF_DONE);
+    HOLDS(said[CAF_PICTURE_EDITS] == 7 && said[CAF_PICTURE_FRAMES] == 1 && said[CAF_PICTURE_GROUPS] == 2);
+    HOLDS(pairs[0] == 1 && pairs[1] == 1 && pairs[2] == -1 && pairs[3] == -1);
+    HOLDS(pairs[4] == 2 && pairs[5] == 2 && pairs[6] == -3 && pairs[7] == -3);
+}
+
 int main(void) {
+    overviewed();
     written();
     read_plainly();
     HOLDS(caf_read_strict(film, LENGTH, out, CAF_STRICT_PLACES) == CAF_DONE);

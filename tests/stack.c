@@ -45,6 +45,7 @@ enum { ROOM = 512 };
 
 static uint64_t record[CAF_RECORD], feeder[CAF_FEEDER], place[CAF_CHAN_PLACES], out[CAF_STRICT_PLACES];
 static uint32_t descriptions[8 * CAF_DESCRIPTION];
+static int16_t pairs[2 * 8];
 static uint8_t buf[ROOM], bytes[12];
 static int32_t samples[4] = {1, -1, 8388607, -8388608};
 static const uint8_t data[12] = {1, 2, 3, 4, 5, 6, 7, 8, 9, 10, 11, 12};
@@ -101,6 +102,20 @@ static void closed(void) {
     holds(caf_finish(record, CAF_RECORD, buf, ROOM) == CAF_DONE, "caf_finish");
 }
 
+/* of one whole frame, with an overview to come, and with it */
+static void chosen(void) {
+    filled();
+    holds(caf_write_data(record, CAF_RECORD, buf, ROOM, data, 12) == CAF_DONE, "caf_write_data");
+    holds(caf_finish(record, CAF_RECORD, buf, ROOM) == CAF_DONE, "caf_finish");
+    record[CAF_RECORD_GROUP] = 1;
+}
+
+static void shown(void) {
+    chosen();
+    holds(caf_append_overview(record, CAF_RECORD, buf, ROOM) == CAF_DONE, "caf_append_overview");
+    holds(caf_find_overview(buf, LENGTH, place, CAF_OVERVIEW_PLACES) == CAF_DONE && place[CAF_OVERVIEW_FOUND], "caf_find_overview");
+}
+
 static void feeding(size_t count) {
     closed();
     holds(caf_feed_begin(feeder, CAF_FEEDER) == CAF_DONE, "caf_feed_begin");
@@ -129,6 +144,8 @@ static uint32_t layout_last(void) { return caf_layout_for_labels(last, 8, out, C
 static uint32_t layout_none(void) { return caf_layout_for_labels(none, 8, out, CAF_LAYOUT_PLACES); }
 static uint32_t find_chan(void) { return caf_find_chan(buf, LENGTH, out, CAF_CHAN_PLACES); }
 static uint32_t read_chan(void) { return caf_read_chan(buf + place[CAF_CHAN_START], place[CAF_CHAN_SIZE], 8, descriptions, 8 * CAF_DESCRIPTION, out, CAF_SAID_PLACES); }
+static uint32_t find_overview(void) { return caf_find_overview(buf, LENGTH, out, CAF_OVERVIEW_PLACES); }
+static uint32_t read_overview(void) { return caf_read_overview(buf + place[CAF_OVERVIEW_START], place[CAF_OVERVIEW_SIZE], 8, pairs, 2 * 8, out, CAF_PICTURE_PLACES); }
 static uint32_t new(void) { return caf_new(record, CAF_RECORD); }
 static uint32_t resume(void) { return caf_resume(buf, ROOM, LENGTH, record, CAF_RECORD, out, 1); }
 static uint32_t resume_counted(void) { return caf_resume_counted(buf, ROOM, LENGTH, 8, out, CAF_RESUME_COUNTED_PLACES); }
@@ -140,6 +157,8 @@ static uint32_t labels_none(void) { return caf_set_layout_for_labels(record, CAF
 static uint32_t configure_first(void) { return caf_configure_format(record, CAF_RECORD, 48000.0, 1, 24, first, 1); }
 static uint32_t configure_last(void) { return caf_configure_format(record, CAF_RECORD, 48000.0, 8, 24, last, 8); }
 static uint32_t configure_none(void) { return caf_configure_format(record, CAF_RECORD, 48000.0, 8, 24, none, 8); }
+static uint32_t choose(void) { return caf_set_overview_group(record, CAF_RECORD, 1); }
+static uint32_t append_overview(void) { return caf_append_overview(record, CAF_RECORD, buf, ROOM); }
 static uint32_t header(void) { return caf_write_header(record, CAF_RECORD, buf, ROOM); }
 static uint32_t write_data(void) { return caf_write_data(record, CAF_RECORD, buf, ROOM, data, 12); }
 static uint32_t write_samples(void) { return caf_write_samples(record, CAF_RECORD, buf, ROOM, samples, 4); }
@@ -174,6 +193,8 @@ static const struct row {
     {"caf_find_chan", closed, find_chan},
     {"caf_read_chan", begun, read_chan},
     {"caf_read_chan", begun_described, read_chan},
+    {"caf_find_overview", shown, find_overview},
+    {"caf_read_overview", shown, read_overview},
     {"caf_new", fresh, new},
     {"caf_resume", filled, resume},
     {"caf_resume_counted", filled, resume_counted},
@@ -185,11 +206,13 @@ static const struct row {
     {"caf_configure_format", tagged, configure_first},
     {"caf_configure_format", tagged, configure_last},
     {"caf_configure_format", tagged, configure_none},
+    {"caf_set_overview_group", begun, choose},
     {"caf_write_header", tagged, header},
     {"caf_write_header", described, header},
     {"caf_write_data", begun, write_data},
     {"caf_write_samples", begun, write_samples},
     {"caf_finish", filled, finish},
+    {"caf_append_overview", chosen, append_overview},
     {"caf_stats", filled, stats},
     {"caf_write_header_counted", tagged, header_counted},
     {"caf_write_header_counted", described, header_counted},

@@ -2,7 +2,7 @@
 import ctypes
 import sys
 
-RECORD, FILE_LEN, ROOM = 82, 79, 1400
+RECORD, FILE_LEN, ROOM = 84, 79, 1400
 
 caf = ctypes.CDLL(sys.argv[1])
 record, room = (ctypes.c_uint64 * RECORD)(), ctypes.c_size_t(ROOM)

@@ -1,7 +1,7 @@
 // Writes the example film to standard output, from Rust.
 use std::io::Write;
 
-const RECORD: usize = 82;
+const RECORD: usize = 84;
 const FILE_LEN: usize = 79;
 
 #[link(name = "caf")]

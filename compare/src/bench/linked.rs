@@ -117,7 +117,7 @@ impl Feeder {
     }
 }
 
-const RECORD: usize = 82;
+const RECORD: usize = 84;
 
 /// A writer record as a caller in C keeps it.
 pub struct Writer([u64; RECORD]);

@@ -5,6 +5,7 @@ pub mod chan;
 pub mod counted;
 pub mod layouts;
 pub mod made;
+pub mod overviews;
 pub mod readings;
 pub mod samples;
 pub mod settings;

@@ -16,7 +16,8 @@ use Rattle.writer.specs.Header.{headerNumber, headerCall}
 use Rattle.writer.specs.Data.{dataNumber, dataCall, samplesNumber, samplesCall}
 use Rattle.writer.specs.Finish.{finishNumber, finalSize, finishCall}
 use Rattle.writer.specs.Resume.{resumed, resumeCall}
-use Rattle.writer.specs.Settings.{formatCall, tagCall, labelsCall, configureCall}
+use Rattle.writer.specs.Overview.{overviewCall}
+use Rattle.writer.specs.Settings.{formatCall, tagCall, labelsCall, configureCall, groupCall}
 use Rattle.writer.specs.declared.CAFWriter.{CAFWriter}
 use Rattle.given.specs.Claims.{NumbersOfCalls}
 
@@ -32,7 +33,7 @@ finish-done true w = refl
 finish-done false w = refl
 
 pub numbers-of-calls : NumbersOfCalls
-unfolding headerCall dataCall samplesCall finishCall resumeCall formatCall tagCall labelsCall configureCall
+unfolding headerCall dataCall samplesCall finishCall resumeCall overviewCall groupCall formatCall tagCall labelsCall configureCall
 numbers-of-calls =
     record {
       header = λ w room. its-number _ w _ refl;
@@ -40,6 +41,8 @@ numbers-of-calls =
       samples = λ w room xs. its-number _ w _ refl ∙ ap (samplesNumber w room) (length-packed (w .endianness) xs);
       finish = λ w room. its-number _ w _ (finish-done (w .finished) w);
       resume = λ buf len. its-number _ _ _ refl;
+      overview = λ w buf. its-number _ w _ refl;
+      group = λ w frames. its-number _ w _ refl;
       format = λ w rate channels bits t e. its-number _ w _ refl;
       tag = λ w t. its-number _ w _ refl;
       labels = λ w ls channels. its-number _ w _ refl;

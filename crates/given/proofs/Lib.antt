@@ -4,4 +4,5 @@ pub mod Resume
 pub mod Settings
 pub mod Samples
 pub mod Exactly
+pub mod Overview
 pub mod Calls

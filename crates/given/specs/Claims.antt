@@ -17,9 +17,10 @@ use Rattle.writer.specs.Header.{headerNumber, headerCall}
 use Rattle.writer.specs.Data.{dataNumber, dataCall, samplesNumber, samplesCall}
 use Rattle.writer.specs.Finish.{finishNumber, finishCall}
 use Rattle.writer.specs.Resume.{resumed, resumeCall}
-use Rattle.writer.specs.Settings.{settingNumber, first, formatCall, tagCall, labelsCall, configureCall}
+use Rattle.writer.specs.Overview.{overviewNumber, overviewCall}
+use Rattle.writer.specs.Settings.{settingNumber, first, groupNumber, formatCall, tagCall, labelsCall, configureCall, groupCall}
 use Rattle.writer.specs.declared.CAFWriter.{CAFWriter}
-use Rattle.given.specs.Rows.{HeaderGives, DataGives, SamplesGives, FinishGives, ResumeGives, SettingGives, FormatGives, TagGives, LabelsGives, ConfigureGives, PackGives, UnpackGives}
+use Rattle.given.specs.Rows.{HeaderGives, DataGives, SamplesGives, FinishGives, ResumeGives, OverviewGives, GroupGives, SettingGives, FormatGives, TagGives, LabelsGives, ConfigureGives, PackGives, UnpackGives}
 
 pub record GivenExactly : Type 0 where
   pub header : (w : CAFWriter) (room number : ℕ) → (headerNumber w room ≡ number) ↔ HeaderGives w room number
@@ -27,6 +28,8 @@ pub record GivenExactly : Type 0 where
   pub samples : (w : CAFWriter) (room n number : ℕ) → (samplesNumber w room n ≡ number) ↔ SamplesGives w room n number
   pub finish : (w : CAFWriter) (room number : ℕ) → (finishNumber w room ≡ number) ↔ FinishGives w room number
   pub resume : (buf : List ℕ) (len number : ℕ) → (resumed buf len .number ≡ number) ↔ ResumeGives buf len number
+  pub overview : (w : CAFWriter) (room number : ℕ) → (overviewNumber w room ≡ number) ↔ OverviewGives w room number
+  pub group : (w : CAFWriter) (number : ℕ) → (groupNumber w ≡ number) ↔ GroupGives w number
   pub setting : (w : CAFWriter) (own number : ℕ) → (settingNumber w own ≡ number) ↔ SettingGives w own number
   pub format : (rate : Float) (channels bits number : ℕ) → (formatNumber rate channels bits ≡ number) ↔ FormatGives rate channels bits number
   pub tag : (t number : ℕ) → (tagNumber t ≡ number) ↔ TagGives t number
@@ -42,6 +45,8 @@ pub record NumbersOfCalls : Type 0 where
   pub samples : (w : CAFWriter) (room : ℕ) (xs : List ℤ) → samplesCall w room xs .number ≡ samplesNumber w room (3 * length xs)
   pub finish : (w : CAFWriter) (room : ℕ) → finishCall w room .number ≡ finishNumber w room
   pub resume : (buf : List ℕ) (len : ℕ) → resumeCall buf len .number ≡ resumed buf len .number
+  pub overview : (w : CAFWriter) (buf : List ℕ) → overviewCall w buf .number ≡ overviewNumber w (length buf)
+  pub group : (w : CAFWriter) (frames : ℕ) → groupCall w frames .number ≡ groupNumber w
   pub format : (w : CAFWriter) (rate : Float) (channels bits : ℕ) (t : PCMDataType) (e : Endianness)
       → formatCall w rate channels bits t e .number ≡ settingNumber w (formatNumber rate channels bits)
   pub tag : (w : CAFWriter) (t : ℕ) → tagCall w t .number ≡ settingNumber w (tagNumber t)

@@ -28,6 +28,7 @@ calls-are-typed =
       tag = λ t h. h;
       labels = λ ls channels h c. (h, c);
       configure = λ rate channels bits ls f c b h. (f, c, b, h);
+      group = λ g h. h;
       header = tt;
       bytes = λ bs h. h;
       samples = λ xs. tt;

@@ -20,14 +20,14 @@ use Rattle.pcm.specs.Unpacking.{unpacked}
 use Rattle.pcm.proofs.Packed.{length-packed}
 use Rattle.pcm.proofs.RoundTrip.{round-trip-any}
 use Rattle.reading.specs.Grammar.{bytesOf}
-use Rattle.writer.specs.Record.{labelsOf, withFormat, withLayout, withHeader, withData, asFinished}
+use Rattle.writer.specs.Record.{labelsOf, withFormat, withLayout, withHeader, withData, asFinished, withGroup}
 use Rattle.writer.specs.Sound.{soundAlone}
 use Rattle.header_bytes.specs.Made.{made}
 use Rattle.writer.specs.Outcome.{stores, unchanged}
 use Rattle.writer.specs.Header.{headerOf, headerNumber, headerCall}
 use Rattle.writer.specs.Data.{dataNumber, dataCall, samplesNumber, samplesCall}
 use Rattle.writer.specs.Finish.{finishNumber, finalSize, finishCall}
-use Rattle.writer.specs.Settings.{settingNumber, first, withLabels, formatCall, tagCall, labelsCall, configureCall}
+use Rattle.writer.specs.Settings.{settingNumber, first, withLabels, formatCall, tagCall, labelsCall, configureCall, groupNumber, groupCall}
 use Rattle.kept.specs.Settled.{Settled}
 use Rattle.writer.specs.declared.CAFWriter.{CAFWriter}
 use Rattle.writer.proofs.Tests.{true-false, pass}
@@ -36,7 +36,7 @@ use Rattle.writer.proofs.Packing.{samples-data}
 use Rattle.reading.specs.Plain.{plain}
 use Rattle.writer.proofs.Facts.{in-room}
 use Rattle.kept.proofs.SettledKept.{settled-kept, order-given}
-use Rattle.recovery.specs.Calls.{Setting, format, tag, labels, configure, Call, set, header, bytes, samples, finish, lend, TypedCalls}
+use Rattle.recovery.specs.Calls.{Setting, format, tag, labels, configure, group, Call, set, header, bytes, samples, finish, lend, TypedCalls}
 use Rattle.recovery.specs.Session.{Session, isAccepted, brought, doCall, run}
 use Rattle.recovery.specs.Cut.{resting, fileOf}
 use Rattle.recovery.specs.Sessions.{CutSession, lentAgain, leftBy, begins}
@@ -59,6 +59,7 @@ rule-kept s i k (set (format rate channels bits t e)) r = settled-kept .format (
 rule-kept s i k (set (tag t)) r = settled-kept .tag (s .writer) (s .buffer) t r
 rule-kept s i k (set (labels ls channels)) r = settled-kept .labels (s .writer) (s .buffer) ls channels r
 rule-kept s i k (set (configure rate channels bits ls)) r = settled-kept .configure (s .writer) (s .buffer) rate channels bits ls r
+rule-kept s i k (set (group g)) r = settled-kept .group (s .writer) (s .buffer) g r
 rule-kept s i k header r = settled-kept .header (s .writer) (s .buffer) (k .now) r
 rule-kept s i k (bytes bs) r = settled-kept .bytes (s .writer) (s .buffer) bs r
 rule-kept s i k (samples xs) r = settled-kept .samples (s .writer) (s .buffer) xs r
@@ -107,7 +108,7 @@ module _ (e : Endianness) (s : Session) (p : Ordered e s) where
       true-false (sym (p .has-header) ∙ pass (w .«has_header») headerAlready number (lit< tt) (a .1) .0)
 
   order-set : (x : Setting) → Ordered e (doCall s (set x))
-  unfolding formatCall tagCall labelsCall configureCall
+  unfolding formatCall tagCall labelsCall configureCall groupCall
   order-set (format rate channels bits t o) =
       by-call s (set (format rate channels bits t o)) (Ordered e) (settingNumber w (formatNumber rate channels bits)) (stores 0 [] (withFormat w (pcmFormat rate channels bits t o) o)) refl refl p
       (λ n. absurd (no-setting (formatNumber rate channels bits) n))
@@ -121,6 +122,8 @@ module _ (e : Endianness) (s : Session) (p : Ordered e s) where
       let number = first (formatNumber rate channels bits) (labelsNumber ls channels) in
       by-call s (set (configure rate channels bits ls)) (Ordered e) (settingNumber w number) (stores 0 [] (withLabels v ls channels)) refl refl p
       (λ n. absurd (no-setting number n))
+  order-set (group g) =
+      by-call s (set (group g)) (Ordered e) (groupNumber w) (stores 0 [] (withGroup w g)) refl refl p (λ n. record { has-header = p .has-header; order = p .order })
 
   order-header : Ordered e (doCall s header)
   unfolding headerCall

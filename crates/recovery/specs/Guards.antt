@@ -10,7 +10,7 @@ use Rattle.format.specs.declared.PCMDataType.{PCMDataType}
 use Rattle.format.specs.declared.Endianness.{Endianness}
 use Rattle.layout.specs.Labels as label
 use Rattle.reading.specs.Claims.{Bytes}
-use Rattle.recovery.specs.Calls.{Call, set, format, tag, labels, configure, header, bytes, samples, finish, lend, Numbers32, TypedCall, TypedCalls}
+use Rattle.recovery.specs.Calls.{Call, set, format, tag, labels, configure, group, header, bytes, samples, finish, lend, Numbers32, TypedCall, TypedCalls}
 use Rattle.recovery.specs.Cut.{Remains}
 use Rattle.recovery.specs.Sessions.{CutSession, TypedSessions, leftBy}
 use Rattle.recovery.specs.Demand.{IsShort, IsWhole, Holds, BilledRight}
@@ -25,6 +25,7 @@ pub record CallsAreTyped : Type 0 where
   pub tag : (t : ℕ) → t < 2 ^ 32 → TypedCall (set (tag t))
   pub labels : (ls : List ℕ) (channels : ℕ) → Numbers32 ls → channels < 2 ^ 32 → TypedCall (set (labels ls channels))
   pub configure : (rate : Float) (channels bits : ℕ) (ls : List ℕ) → T (fits binary64 rate) → channels < 2 ^ 32 → bits < 2 ^ 32 → Numbers32 ls → TypedCall (set (configure rate channels bits ls))
+  pub group : (g : ℕ) → g < 2 ^ 32 → TypedCall (set (group g))
   pub header : TypedCall header
   pub bytes : (bs : List ℕ) → Bytes bs → TypedCall (bytes bs)
   pub samples : (xs : List ℤ) → TypedCall (samples xs)

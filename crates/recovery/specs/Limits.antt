@@ -44,6 +44,8 @@ placed headed position start len count =
       «file_len» = len;
       «data_count» = count;
       finished = false;
+      group = 0;
+      overview = false;
     }
 
 abbrev pub inOrder : Endianness → AudioFormat
