@@ -50,6 +50,7 @@ enum caf_number {
     CAF_NOT_CLOSED = 25,
     CAF_NO_GROUP = 26,
     CAF_WRONG_WIDTH = 27,
+    CAF_BAD_TRAY = 28,
     CAF_DATA_BEGUN = 33
 };
 
@@ -194,6 +195,53 @@ uint32_t caf_feed_pass(uint64_t *feeder, size_t feeder_len, uint64_t n);
  *
  * Numbers: 14, 19; what a block gave, 2, 6, 7, 23, 4, 5 or 21; then 3, 1, 8. */
 uint32_t caf_feed_end(const uint64_t *feeder, size_t feeder_len, uint64_t *out, size_t out_len);
+
+/* ---- a tray of clips
+ *
+ * A tray holds short files, its clips: the count of them in four bytes; a table with a row of sixteen for
+ * each, where it begins, counted from the start of the tray, and how many bytes it has, in eight each; and
+ * their bodies. All numbers are big-endian. Clips may overlap and may be empty, and bytes of the bodies
+ * may lie in none.
+ *
+ *     number = caf_read_tray(tray, tray_len, out, CAF_CLIP * CAF_TRAY_MOST);
+ *     for (i = 0; number == CAF_DONE && i < count; i++)
+ *         if (out[CAF_CLIP * i + CAF_CLIP_NUMBER] == CAF_DONE)
+ *             payload += out[CAF_CLIP * i + CAF_CLIP_PAYLOAD];
+ */
+enum {
+    CAF_TRAY_MOST = 4096, /* clips of a tray */
+    CAF_TRAY_COUNT = 4,   /* bytes of the count */
+    CAF_TRAY_ROW = 16     /* bytes of a row */
+};
+
+/* Places of one clip in the array that caf_read_tray fills, CAF_CLIP for each. */
+enum caf_clip_place {
+    CAF_CLIP_NUMBER = 0,  /* what caf_read_strict gives for the clip as a file of its own, where it has room */
+    CAF_CLIP_CHUNKS = 1,  /* its CAF_STRICT_CHUNKS */
+    CAF_CLIP_PAYLOAD = 2, /* its CAF_STRICT_PAYLOAD; 0 for a clip that is refused */
+    CAF_CLIP_FRAMES = 3,  /* its CAF_STRICT_FRAMES; 0 for a clip that is refused */
+    CAF_CLIP = 4
+};
+
+/* The strict reading of every clip. Done: writes CAF_CLIP numbers for each, in the order of the rows; the
+ * places after them keep their contents. A clip that is refused has its number there, and refuses nothing
+ * else. Refused: writes nothing. In this order:
+ *   CAF_BAD_TRAY  the count or the table is cut; the count is above CAF_TRAY_MOST; a clip, also an empty
+ *                 one, begins inside the table or ends after the tray;
+ *   CAF_NO_ROOM   fewer than CAF_CLIP * count places.
+ *
+ * Numbers: 28, 14. */
+uint32_t caf_read_tray(const uint8_t *tray, size_t tray_len, uint64_t *out, size_t out_len);
+
+/* Makes a tray of clips that stand joined in `bodies`; `lengths` are theirs, in their order. What is in
+ * them is not looked at. Done: writes CAF_TRAY_COUNT + CAF_TRAY_ROW * clip_count + bodies_len bytes to out;
+ * those after them keep their contents. Refused: writes nothing. In this order:
+ *   CAF_BAD_TRAY  more than CAF_TRAY_MOST clips; lengths that do not add up to bodies_len;
+ *   CAF_NO_ROOM   fewer bytes in out.
+ *
+ * Numbers: 28, 14. */
+uint32_t caf_write_tray(const uint8_t *bodies, size_t bodies_len, const uint64_t *lengths, size_t clip_count,
+                        uint8_t *out, size_t out_len);
 
 /* ---- layouts */
 

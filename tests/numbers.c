@@ -37,7 +37,8 @@ enum fault {
     SHORT = 1 << 13,
     LAYOUT = 1 << 14,
     SMALL = 1 << 15, /* no room for the result */
-    BEYOND = 1 << 16 /* a file that is longer than its buffer */
+    BEYOND = 1 << 16, /* a file that is longer than its buffer */
+    TRAY = 1 << 17
 };
 
 static uint32_t number_of(enum fault fault) {
@@ -62,6 +63,7 @@ static uint32_t number_of(enum fault fault) {
     case ODD: return CAF_ODD_LENGTH;
     case SHORT: return CAF_CUT_SHORT;
     case LAYOUT: return CAF_BAD_LAYOUT;
+    case TRAY: return CAF_BAD_TRAY;
     }
     return UINT32_MAX;
 }
@@ -247,6 +249,20 @@ static uint32_t read_chan(unsigned faults) {
                          faults & SMALL ? 2 * CAF_DESCRIPTION - 1 : 2 * CAF_DESCRIPTION, out, places(faults, CAF_SAID_PLACES));
 }
 
+/* one empty clip; the table of a second is cut */
+static uint32_t read_tray(unsigned faults) {
+    uint8_t tray[20] = {0, 0, 0, faults & TRAY ? 2 : 1, 0, 0, 0, 0, 0, 0, 0, 20};
+
+    return caf_read_tray(tray, sizeof tray, out, faults & SMALL ? CAF_CLIP - 1 : CAF_CLIP);
+}
+
+/* a clip of 7 bytes, of which one may be missing */
+static uint32_t write_tray(unsigned faults) {
+    static const uint64_t lengths[1] = {sizeof bytes};
+
+    return caf_write_tray(bytes, faults & TRAY ? 6 : 7, lengths, 1, buf, faults & SMALL ? 0 : 27);
+}
+
 static uint32_t pack(unsigned faults) { return caf_pack_24(samples, 2, false, buf, faults & SMALL ? 5 : 6); }
 
 static uint32_t unpack(unsigned faults) {
@@ -409,6 +425,10 @@ static void resumes(void) {
     printf("\n");
 }
 
+static const struct row trays[] = {
+    {"caf_read_tray", read_tray, {TRAY, SMALL}},
+    {"caf_write_tray", write_tray, {TRAY, SMALL}},
+};
 static const struct row layouts[] = {
     {"caf_layout_for_labels", layout_for_labels, {PLACES}},
     {"caf_find_chan", find_chan, {PLACES}},
@@ -439,6 +459,7 @@ static const struct row writing[] = {
 
 int main(void) {
     readings();
+    show(trays, COUNT(trays));
     show(layouts, COUNT(layouts));
     resumes();
     show(writing, COUNT(writing));

@@ -46,7 +46,8 @@ enum { ROOM = 512 };
 static uint64_t record[CAF_RECORD], feeder[CAF_FEEDER], place[CAF_CHAN_PLACES], out[CAF_STRICT_PLACES];
 static uint32_t descriptions[8 * CAF_DESCRIPTION];
 static int16_t pairs[2 * 8];
-static uint8_t buf[ROOM], bytes[12];
+static uint8_t buf[ROOM], bytes[12], tray[CAF_TRAY_COUNT + CAF_TRAY_ROW + ROOM];
+static uint64_t length;
 static int32_t samples[4] = {1, -1, 8388607, -8388608};
 static const uint8_t data[12] = {1, 2, 3, 4, 5, 6, 7, 8, 9, 10, 11, 12};
 
@@ -129,6 +130,13 @@ static void fed_30(void) { feeding(30); }
 static void fed_header(void) { feeding((closed(), LENGTH - sizeof data)); }
 static void fed_all(void) { feeding((closed(), LENGTH)); }
 
+/* a tray of the file */
+static void in_a_tray(void) {
+    closed();
+    length = LENGTH;
+    holds(caf_write_tray(buf, LENGTH, &length, 1, tray, sizeof tray) == CAF_DONE, "caf_write_tray");
+}
+
 /* ---- the calls */
 
 static uint32_t nothing(void) { return 0; }
@@ -139,6 +147,8 @@ static uint32_t feed(void) { return caf_feed(feeder, CAF_FEEDER, buf + feeder[CA
 static uint32_t passable(void) { return caf_feed_passable(feeder, CAF_FEEDER) == 12 ? CAF_DONE : CAF_CUT_SHORT; }
 static uint32_t pass(void) { return caf_feed_pass(feeder, CAF_FEEDER, 12); }
 static uint32_t feed_end(void) { return caf_feed_end(feeder, CAF_FEEDER, out, CAF_STRICT_PLACES); }
+static uint32_t read_tray(void) { return caf_read_tray(tray, CAF_TRAY_COUNT + CAF_TRAY_ROW + LENGTH, out, CAF_CLIP); }
+static uint32_t write_tray(void) { return caf_write_tray(buf, LENGTH, &length, 1, tray, sizeof tray); }
 static uint32_t layout_first(void) { return caf_layout_for_labels(first, 1, out, CAF_LAYOUT_PLACES); }
 static uint32_t layout_last(void) { return caf_layout_for_labels(last, 8, out, CAF_LAYOUT_PLACES); }
 static uint32_t layout_none(void) { return caf_layout_for_labels(none, 8, out, CAF_LAYOUT_PLACES); }
@@ -187,6 +197,8 @@ static const struct row {
     {"caf_feed_passable", fed_header, passable},
     {"caf_feed_pass", fed_header, pass},
     {"caf_feed_end", fed_all, feed_end},
+    {"caf_read_tray", in_a_tray, read_tray},
+    {"caf_write_tray", in_a_tray, write_tray},
     {"caf_layout_for_labels", fresh, layout_first},
     {"caf_layout_for_labels", fresh, layout_last},
     {"caf_layout_for_labels", fresh, layout_none},

@@ -9,4 +9,5 @@ pub mod overviews;
 pub mod readings;
 pub mod samples;
 pub mod settings;
+pub mod trays;
 pub mod writing;
