@@ -9,10 +9,11 @@ use Rattle.reading.specs.Rules.{plainData, strictData, stepBy}
 use Rattle.reading.specs.Walk.{steps, walk}
 use Rattle.reading.specs.Plain.{plain}
 use Rattle.reading.specs.Strict.{strict}
+use Rattle.writer.specs.Resume.{tailNumber, resumed, resumeCall}
 use Rattle.writer.specs.Sound.{placesSound, formatSound, layoutSound, soundAlone, sound}
 use Rattle.recovery.specs.Figures.{allHold}
 use Rattle.recovery.specs.Limits.{limitRows}
 
 pub limits : T (allHold limitRows)
-unfolding ofBits toBits isNan ofFields odd span climb size descBody formatAt knownLabel knownTag chanBody descAt skipAt plainData strictData stepBy steps walk plain strict placesSound formatSound layoutSound soundAlone sound limitRows
+unfolding ofBits toBits isNan ofFields odd span climb size descBody formatAt knownLabel knownTag chanBody descAt skipAt plainData strictData stepBy steps walk plain strict placesSound formatSound layoutSound soundAlone sound tailNumber resumed resumeCall limitRows
 limits = tt

@@ -25,6 +25,7 @@ use Rattle.reading.specs.Plain.{plain}
 use Rattle.reading.specs.Strict.{strict}
 use Rattle.reading.specs.Types.{'desc', 'data'}
 use Rattle.writer.specs.Record.{fresh, withFormat, withPlaces, withLayout, asFinished, statsOf}
+use Rattle.writer.specs.Resume.{resumeCall}
 use Rattle.writer.specs.Sound.{soundAlone, sound}
 use Rattle.writer.specs.declared.CAFWriter.{CAFWriter}
 use Rattle.recovery.specs.Figures.{rate48000, isClosedWith}
@@ -136,6 +137,13 @@ limitRows =
     eqb (strictOf (sized 4 (0 ∷ []))) 1 ∷
     eqb (strictOf (sized 4 (replicate 11 0))) 1 ∷
     isClosedWith (strict (sized 4 (replicate 12 0))) 0 ∷
+    eqb (strictCount (strict (sized 4 (replicate 12 0)))) 3 ∷
+    -- another data chunk there is SecondData, whatever its size says; and the version is looked at after `caff`
+    eqb (strictOf (sized 4 (chunkHeader 'data' 9223372036854775808))) 23 ∷
+    eqb (strictOf (take 4 (sized 4 []) ++ replicate 4 0)) 6 ∷
+    -- a resumed record ends where its file does, and begins with no frames per sample chosen (T-09)
+    eqb (resumeCall (sized 4 []) 68 .after .«file_len») 68 ∷
+    eqb (resumeCall (sized 4 []) 68 .after .group) 0 ∷
     -- stats: the data count, and whether the record is finished
     eqb (statsOf (placed true 56 68 70 2) .«data_count») 2 ∷
     not (statsOf (placed true 56 68 70 2) .finished) ∷
