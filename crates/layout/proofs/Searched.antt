@@ -1,20 +1,20 @@
 -- Rows that never answer may be left out of the search, and all others answer their own order.
 use mathlib.Core.Path.{_≡_, refl, sym, _∙_, ap}
-use mathlib.Core.Bool.{Bool, true, false, cond, not, _&&_, _||_, true≢false}
+use mathlib.Core.Bool.{Bool, true, false, cond, not, _||_, true≢false}
 use mathlib.Core.List.{List, [], _∷_}
 use mathlib.Core.Logic.{_⊎_, inl, inr}
-use Prim.Native.Nat.{ℕ, suc, _<_}
+use Prim.Native.Nat.{ℕ, suc, _<_, _≤_}
+use native.Mathlib.Omega.{arith}
 use lib.ListN.{length, getD, drop}
 use lib.Seq.{drop-cons}
-use lib.Dec.{eqb}
-use borrow.Author.Tests.{eqb-true}
+use lib.Dec.{eqb, leb}
+use borrow.Author.Tests.{eqb-true, leb-true}
 use Rattle.byteorder.specs.Same.{exactly}
 use Rattle.byteorder.proofs.Same.{exactly-eq, exactly-no}
 use Rattle.layout.specs.Known.{among}
-use Rattle.layout.specs.Table.{StandardLayout, standardLayouts, beyond, rowAt, rowOrder}
-use Rattle.layout.specs.Counts.{«43-rows»}
+use Rattle.layout.specs.Table.{StandardLayout, standardLayouts, beyond, rowPlaces, rowOrder}
 use Rattle.layout.specs.Search.{firstRow, layoutFor, hasTag}
-use Rattle.layout.specs.Searched.{silent, unless, without, searched, NeverAnswered, OthersAnswer, SearchedEnough}
+use Rattle.layout.specs.Searched.{silent, unless, without, searched, searchedAt, rowsBefore, NeverAnswered, OthersAnswer, SearchedEnough}
 use Rattle.layout.specs.declared.ChannelLayout.{ChannelLayout}
 use Rattle.layout.specs.declared.ChannelLayout.the-variants.{NoLayout, Tagged, Described}
 use Rattle.layout.proofs.Every.{every, each, both}
@@ -109,25 +109,41 @@ others-answer =
       own = λ i h. is-tag (layoutFor (getD searched i beyond .order)) (getD searched i beyond .tag) (each own searched i all-own (rw «40-rows» h));
     }
 
+-- a searched row has places for all of its labels
+abbrev fitting : StandardLayout → Bool
+fitting r = leb (length (r .order)) rowPlaces
+
+all-fit : every fitting searched ≡ true
+unfolding searched standardLayouts
+all-fit = refl
+
+pub searched-fits : (i : ℕ) → i < 40 → searchedAt i .count ≤ rowPlaces
+searched-fits i h = leb-true (length (getD searched i beyond .order)) rowPlaces (each fitting searched i all-fit (rw «40-rows» h))
+
 -- one turn of the search
-pub next-row : (i : ℕ) (ls : List ℕ) → i < 43
-    → firstRow (without silent (drop i standardLayouts)) ls ≡ cond (not (among (rowAt i .tag) silent) && exactly (rowOrder (rowAt i)) ls) (Tagged (rowAt i .tag)) (firstRow (without silent (drop (suc i) standardLayouts)) ls)
-next-row i ls h =
-    let r = getD standardLayouts i beyond in
-    let rest = without silent (drop (suc i) standardLayouts) in
-    rw (drop-cons standardLayouts i beyond (rw «43-rows» h), order-kept r) (go r rest (among (r .tag) silent))
-  where
-    go : (r : StandardLayout) (rest : List StandardLayout) (s : Bool)
-        → firstRow (unless s r rest) ls ≡ cond (not s && exactly (r .order) ls) (Tagged (r .tag)) (firstRow rest ls)
-    go r rest true = refl
-    go r rest false = refl
+pub next-row : (i : ℕ) (ls : List ℕ) → i < 40
+    → rowsBefore (drop i searched) ls ≡ cond (exactly (rowOrder (searchedAt i)) ls) 0 (suc (rowsBefore (drop (suc i) searched) ls))
+next-row i ls h = rw (drop-cons searched i beyond (rw «40-rows» h), order-kept (getD searched i beyond))
 
 -- a row with another count does not answer
-pub other-count : (i : ℕ) (ls : List ℕ) → (rowAt i .count ≡ length ls → ⊥) → not (among (rowAt i .tag) silent) && exactly (rowOrder (rowAt i)) ls ≡ false
-other-count i ls other =
-    let r = getD standardLayouts i beyond in
-    rw (order-kept r, exactly-no (r .order) ls (λ e. other (ap length e))) (go (among (r .tag) silent))
+pub other-count : (i : ℕ) (ls : List ℕ) → (searchedAt i .count ≡ length ls → ⊥) → exactly (rowOrder (searchedAt i)) ls ≡ false
+other-count i ls other = let r = getD searched i beyond in rw (order-kept r, exactly-no (r .order) ls (λ e. other (ap length e)))
+
+-- the answer, by how many rows come before it
+pub found : (rs : List StandardLayout) (ls : List ℕ) → rowsBefore rs ls < length rs → firstRow rs ls ≡ Tagged (getD rs (rowsBefore rs ls) beyond .tag)
+found [] ls h = absurd (let z : ⊥ = omega arith in z)
+found (r ∷ rs) ls h = go (exactly (r .order) ls) h (found rs ls)
   where
-    go : (s : Bool) → not s && false ≡ false
-    go true = refl
-    go false = refl
+    go : (m : Bool) → cond m 0 (suc (rowsBefore rs ls)) < suc (length rs) → (rowsBefore rs ls < length rs → firstRow rs ls ≡ Tagged (getD rs (rowsBefore rs ls) beyond .tag))
+        → cond m (Tagged (r .tag)) (firstRow rs ls) ≡ Tagged (getD (r ∷ rs) (cond m 0 (suc (rowsBefore rs ls))) beyond .tag)
+    go true k later = refl
+    go false k later = later (omega arith)
+
+pub not-found : (rs : List StandardLayout) (ls : List ℕ) → length rs ≤ rowsBefore rs ls → firstRow rs ls ≡ Described
+not-found [] ls h = refl
+not-found (r ∷ rs) ls h = go (exactly (r .order) ls) h (not-found rs ls)
+  where
+    go : (m : Bool) → suc (length rs) ≤ cond m 0 (suc (rowsBefore rs ls)) → (length rs ≤ rowsBefore rs ls → firstRow rs ls ≡ Described)
+        → cond m (Tagged (r .tag)) (firstRow rs ls) ≡ Described
+    go true k later = absurd (let z : ⊥ = omega arith in z)
+    go false k later = later (omega arith)

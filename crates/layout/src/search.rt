@@ -1,29 +1,16 @@
-// The layout for labels: the first row of the table with exactly these labels.
+// The layout for labels: the first row of the table with exactly these labels. Only the rows that can answer are looked at.
 use crate::ChannelLayout;
 use crate::Row;
-use crate::table::ROWS;
-use crate::table::count_at;
-use crate::table::row_at;
-use crate::tag;
+use crate::table::SEARCHED;
+use crate::table::searched_at;
+use crate::table::searched_count;
 ghost use mathlib.Core.Path.{_≡_};
-ghost use mathlib.Core.Bool.{not, _&&_};
 ghost use Prim.Native.Nat.{_<_, _≤_};
 ghost use lib.ListN.{length};
 ghost use Rattle.byteorder.specs.Same.{exactly};
-ghost use Rattle.layout.specs.Known.{among};
-ghost use Rattle.layout.specs.Table.{rowAt, rowOrder};
+ghost use Rattle.layout.specs.Table.{rowOrder};
 ghost use Rattle.layout.specs.Search.{layoutFor, layoutFrom};
-ghost use Rattle.layout.specs.Searched.{silent};
-
-// The rows that the search leaves out (document 02, T-07): they never answer, since an earlier row has the same labels.
-fn is_silent(tag: u32) -> bool
-    ensures { λ r. ⌜ r ≡ among tag silent ⌝ }
-{
-    match tag {
-        tag::MPEG_5_0_B | tag::ITU_2_2 | tag::DVD_20 => true,
-        _ => false,
-    }
-}
+ghost use Rattle.layout.specs.Searched.{searched, searchedAt, rowsBefore};
 
 // Of a row with as many labels.
 fn has_labels(row: Row, labels: &[u32]) -> bool
@@ -43,29 +30,36 @@ fn has_labels(row: Row, labels: &[u32]) -> bool
 // Only the first `count` labels of a row are its order, so the count is compared too. It is compared before the row is made, since most
 // rows have another.
 fn matches(i: usize, labels: &[u32]) -> bool
-    requires { ⌜ i < 43 ⌝ }
-    ensures { λ r. ⌜ r ≡ not (among (rowAt i .tag) silent) && exactly (rowOrder (rowAt i)) (now (labels .entry)) ⌝ }
+    requires { ⌜ i < 40 ⌝ }
+    ensures { λ r. ⌜ r ≡ exactly (rowOrder (searchedAt i)) (now (labels .entry)) ⌝ }
 {
-    if count_at(i) != labels.len() {
+    if searched_count(i) != labels.len() {
         return false;
     }
-    let row = row_at(i);
-    if is_silent(row.tag) {
-        return false;
+    has_labels(searched_at(i), labels)
+}
+
+// How many of the 40 rows are passed until one matches: all of them where none does.
+fn rows_before(labels: &[u32]) -> usize
+    ensures { λ r. ⌜ r ≡ rowsBefore searched (now (labels .entry)) ⌝ }
+{
+    let mut i: usize = 0;
+    while i < SEARCHED {
+        if matches(i, labels) {
+            return i;
+        }
+        i += 1;
     }
-    has_labels(row, labels)
+    SEARCHED
 }
 
 pub fn layout_for(labels: &[u32]) -> ChannelLayout
     ensures { λ r. ⌜ r ≡ layoutFor (now (labels .entry)) ⌝ }
 {
-    let mut i: usize = 0;
-    while i < ROWS {
-        if matches(i, labels) {
-            let row = row_at(i);
-            return ChannelLayout::Tagged(row.tag);
-        }
-        i += 1;
+    let i = rows_before(labels);
+    if i < SEARCHED {
+        let row = searched_at(i);
+        return ChannelLayout::Tagged(row.tag);
     }
     ChannelLayout::Described
 }

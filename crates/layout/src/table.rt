@@ -29,8 +29,12 @@ use crate::label::XYY;
 use crate::tag;
 ghost use mathlib.Core.Path.{_≡_};
 ghost use Rattle.layout.specs.Table.{rowAt};
+ghost use Rattle.layout.specs.Searched.{searchedAt};
 
 pub const ROWS: usize = 43;
+
+// Those that the search looks at.
+pub(crate) const SEARCHED: usize = 40;
 
 const MONO: Row = Row {
     tag: tag::MONO,
@@ -297,9 +301,10 @@ const NO_ROW: Row = Row {
     labels: [0, 0, 0, 0, 0, 0, 0, 0],
 };
 
-// The row at a place of the table; past its end a row of no labels.
-pub fn row_at(i: usize) -> Row
-    ensures { λ r. ⌜ r ≡ rowAt i ⌝ }
+// The row at a place among those that are searched; past the last one a row of no labels. Three rows are left out (document 02, T-07): they
+// never answer, since an earlier one has the same labels.
+pub(crate) fn searched_at(i: usize) -> Row
+    ensures { λ r. ⌜ r ≡ searchedAt i ⌝ }
 {
     match i {
         0 => MONO,
@@ -318,41 +323,53 @@ pub fn row_at(i: usize) -> Row
         13 => MPEG_4_0_A,
         14 => MPEG_4_0_B,
         15 => MPEG_5_0_A,
-        16 => MPEG_5_0_B,
-        17 => MPEG_5_0_C,
-        18 => MPEG_5_0_D,
-        19 => MPEG_5_1_A,
-        20 => MPEG_5_1_B,
-        21 => MPEG_5_1_C,
-        22 => MPEG_5_1_D,
-        23 => MPEG_6_1_A,
-        24 => MPEG_7_1_A,
-        25 => MPEG_7_1_B,
-        26 => MPEG_7_1_C,
-        27 => EMAGIC_DEFAULT_7_1,
-        28 => SMPTE_DTV,
-        29 => ITU_2_1,
-        30 => ITU_2_2,
-        31 => DVD_4,
-        32 => DVD_5,
-        33 => DVD_6,
-        34 => DVD_10,
-        35 => DVD_11,
-        36 => DVD_18,
-        37 => DVD_20,
-        38 => DVD_21,
-        39 => AAC_6_0,
-        40 => AAC_6_1,
-        41 => AAC_7_0,
-        42 => AAC_OCTAGONAL,
+        16 => MPEG_5_0_C,
+        17 => MPEG_5_0_D,
+        18 => MPEG_5_1_A,
+        19 => MPEG_5_1_B,
+        20 => MPEG_5_1_C,
+        21 => MPEG_5_1_D,
+        22 => MPEG_6_1_A,
+        23 => MPEG_7_1_A,
+        24 => MPEG_7_1_B,
+        25 => MPEG_7_1_C,
+        26 => EMAGIC_DEFAULT_7_1,
+        27 => SMPTE_DTV,
+        28 => ITU_2_1,
+        29 => DVD_4,
+        30 => DVD_5,
+        31 => DVD_6,
+        32 => DVD_10,
+        33 => DVD_11,
+        34 => DVD_18,
+        35 => DVD_21,
+        36 => AAC_6_0,
+        37 => AAC_6_1,
+        38 => AAC_7_0,
+        39 => AAC_OCTAGONAL,
         _ => NO_ROW,
     }
 }
 
 // The count alone: the compiler then makes nothing else of the row.
-pub(crate) fn count_at(i: usize) -> usize
-    ensures { λ r. ⌜ r ≡ rowAt i .count ⌝ }
+pub(crate) fn searched_count(i: usize) -> usize
+    ensures { λ r. ⌜ r ≡ searchedAt i .count ⌝ }
 {
-    let row = row_at(i);
+    let row = searched_at(i);
     row.count
+}
+
+// The row at a place of the whole table: the three in their places, and the others between them.
+pub fn row_at(i: usize) -> Row
+    ensures { λ r. ⌜ r ≡ rowAt i ⌝ }
+{
+    match i {
+        16 => MPEG_5_0_B,
+        30 => ITU_2_2,
+        37 => DVD_20,
+        0..=15 => searched_at(i),
+        17..=29 => searched_at(i - 1),
+        31..=36 => searched_at(i - 2),
+        _ => searched_at(i - 3),
+    }
 }

@@ -1,8 +1,33 @@
-use mathlib.Core.Path.{sym, ap}
+use mathlib.Core.Path.{_≡_, refl, sym, ap, _∙_}
+use Prim.Native.Nat.{_-_}
+use native.Mathlib.Omega.{arith}
+use borrow.Author.Needs.{needs}
 use Rattle.layout.specs.Table.{standardLayouts, rowAt}
-use Rattle.layout.proofs.Rows.{all-refused, row-after}
+use Rattle.layout.specs.Searched.{searched, searchedAt}
+use Rattle.layout.proofs.Places.{past, in-run, in-rest}
 use Rattle.layout.proofs.table.row_at.Statement.{statement}
 use Rattle.layout.proofs.table.row_at.Tie as tie
+
+searched-at-requires : tie.Need-searched-at-requires
+searched-at-requires c κs = search needs
+
+sub-searched-at : tie.Need-sub-searched-at
+sub-searched-at c = search needs
+
+searched-at-requires-2 : tie.Need-searched-at-requires-2
+searched-at-requires-2 c κs = search needs
+
+sub-searched-at-2 : tie.Need-sub-searched-at-2
+sub-searched-at-2 c = search needs
+
+searched-at-requires-3 : tie.Need-searched-at-requires-3
+searched-at-requires-3 c κs = search needs
+
+sub-searched-at-3 : tie.Need-sub-searched-at-3
+sub-searched-at-3 c = search needs
+
+searched-at-requires-4 : tie.Need-searched-at-requires-4
+searched-at-requires-4 c κs = search needs
 
 returns : tie.Need-returns
 unfolding standardLayouts
@@ -17,213 +42,45 @@ unfolding standardLayouts
 returns-3 c = sym (ap rowAt (c .match .keys3))
 
 returns-4 : tie.Need-returns-4
-unfolding standardLayouts
-returns-4 c = sym (ap rowAt (c .match .keys4))
+unfolding searched standardLayouts
+returns-4 c =
+    let i = c .before .before .before .args .i in
+    let none : i ≡ i - 0 = omega arith in
+    c .searched-at .ensures ∙ ap searchedAt none ∙ in-run 0 0 i (omega arith) 16 refl (omega arith)
 
 returns-5 : tie.Need-returns-5
-unfolding standardLayouts
-returns-5 c = sym (ap rowAt (c .match .keys5))
+unfolding searched standardLayouts
+returns-5 c =
+    let m = c .before .before .before in
+    c .searched-at2 .ensures ∙ in-run 16 1 (m .before .args .i) (past 16 (omega arith) (m .match .rest .0 .0 .1)) 13 refl (omega arith)
 
 returns-6 : tie.Need-returns-6
-unfolding standardLayouts
-returns-6 c = sym (ap rowAt (c .match .keys6))
+unfolding searched standardLayouts
+returns-6 c =
+    let m = c .before .before .before .before in
+    c .searched-at3 .ensures ∙ in-run 29 2 (m .before .args .i) (past 30 (omega arith) (m .match .rest .0 .1)) 6 refl (omega arith)
 
 returns-7 : tie.Need-returns-7
-unfolding standardLayouts
-returns-7 c = sym (ap rowAt (c .match .keys7))
-
-returns-8 : tie.Need-returns-8
-unfolding standardLayouts
-returns-8 c = sym (ap rowAt (c .match .keys8))
-
-returns-9 : tie.Need-returns-9
-unfolding standardLayouts
-returns-9 c = sym (ap rowAt (c .match .keys9))
-
-returns-10 : tie.Need-returns-10
-unfolding standardLayouts
-returns-10 c = sym (ap rowAt (c .match .keys10))
-
-returns-11 : tie.Need-returns-11
-unfolding standardLayouts
-returns-11 c = sym (ap rowAt (c .match .keys11))
-
-returns-12 : tie.Need-returns-12
-unfolding standardLayouts
-returns-12 c = sym (ap rowAt (c .match .keys12))
-
-returns-13 : tie.Need-returns-13
-unfolding standardLayouts
-returns-13 c = sym (ap rowAt (c .match .keys13))
-
-returns-14 : tie.Need-returns-14
-unfolding standardLayouts
-returns-14 c = sym (ap rowAt (c .match .keys14))
-
-returns-15 : tie.Need-returns-15
-unfolding standardLayouts
-returns-15 c = sym (ap rowAt (c .match .keys15))
-
-returns-16 : tie.Need-returns-16
-unfolding standardLayouts
-returns-16 c = sym (ap rowAt (c .match .keys16))
-
-returns-17 : tie.Need-returns-17
-unfolding standardLayouts
-returns-17 c = sym (ap rowAt (c .match .keys17))
-
-returns-18 : tie.Need-returns-18
-unfolding standardLayouts
-returns-18 c = sym (ap rowAt (c .match .keys18))
-
-returns-19 : tie.Need-returns-19
-unfolding standardLayouts
-returns-19 c = sym (ap rowAt (c .match .keys19))
-
-returns-20 : tie.Need-returns-20
-unfolding standardLayouts
-returns-20 c = sym (ap rowAt (c .match .keys20))
-
-returns-21 : tie.Need-returns-21
-unfolding standardLayouts
-returns-21 c = sym (ap rowAt (c .match .keys21))
-
-returns-22 : tie.Need-returns-22
-unfolding standardLayouts
-returns-22 c = sym (ap rowAt (c .match .keys22))
-
-returns-23 : tie.Need-returns-23
-unfolding standardLayouts
-returns-23 c = sym (ap rowAt (c .match .keys23))
-
-returns-24 : tie.Need-returns-24
-unfolding standardLayouts
-returns-24 c = sym (ap rowAt (c .match .keys24))
-
-returns-25 : tie.Need-returns-25
-unfolding standardLayouts
-returns-25 c = sym (ap rowAt (c .match .keys25))
-
-returns-26 : tie.Need-returns-26
-unfolding standardLayouts
-returns-26 c = sym (ap rowAt (c .match .keys26))
-
-returns-27 : tie.Need-returns-27
-unfolding standardLayouts
-returns-27 c = sym (ap rowAt (c .match .keys27))
-
-returns-28 : tie.Need-returns-28
-unfolding standardLayouts
-returns-28 c = sym (ap rowAt (c .match .keys28))
-
-returns-29 : tie.Need-returns-29
-unfolding standardLayouts
-returns-29 c = sym (ap rowAt (c .match .keys29))
-
-returns-30 : tie.Need-returns-30
-unfolding standardLayouts
-returns-30 c = sym (ap rowAt (c .match .keys30))
-
-returns-31 : tie.Need-returns-31
-unfolding standardLayouts
-returns-31 c = sym (ap rowAt (c .match .keys31))
-
-returns-32 : tie.Need-returns-32
-unfolding standardLayouts
-returns-32 c = sym (ap rowAt (c .match .keys32))
-
-returns-33 : tie.Need-returns-33
-unfolding standardLayouts
-returns-33 c = sym (ap rowAt (c .match .keys33))
-
-returns-34 : tie.Need-returns-34
-unfolding standardLayouts
-returns-34 c = sym (ap rowAt (c .match .keys34))
-
-returns-35 : tie.Need-returns-35
-unfolding standardLayouts
-returns-35 c = sym (ap rowAt (c .match .keys35))
-
-returns-36 : tie.Need-returns-36
-unfolding standardLayouts
-returns-36 c = sym (ap rowAt (c .match .keys36))
-
-returns-37 : tie.Need-returns-37
-unfolding standardLayouts
-returns-37 c = sym (ap rowAt (c .match .keys37))
-
-returns-38 : tie.Need-returns-38
-unfolding standardLayouts
-returns-38 c = sym (ap rowAt (c .match .keys38))
-
-returns-39 : tie.Need-returns-39
-unfolding standardLayouts
-returns-39 c = sym (ap rowAt (c .match .keys39))
-
-returns-40 : tie.Need-returns-40
-unfolding standardLayouts
-returns-40 c = sym (ap rowAt (c .match .keys40))
-
-returns-41 : tie.Need-returns-41
-unfolding standardLayouts
-returns-41 c = sym (ap rowAt (c .match .keys41))
-
-returns-42 : tie.Need-returns-42
-unfolding standardLayouts
-returns-42 c = sym (ap rowAt (c .match .keys42))
-
-returns-43 : tie.Need-returns-43
-unfolding standardLayouts
-returns-43 c = sym (ap rowAt (c .match .keys43))
-
-returns-44 : tie.Need-returns-44
-returns-44 c = row-after (c .before .args .i) (all-refused (c .before .args .i) 43 (c .match .rest))
+unfolding searched standardLayouts
+returns-7 c =
+    let m = c .before .before .before .before in
+    c .searched-at4 .ensures ∙ in-rest 35 3 (m .before .args .i) (past 37 (omega arith) (m .match .rest .1)) refl
 
 pub row-at-spec : {M : Type 1} → statement M
 row-at-spec =
     tie.close
     (tie.spec
+    searched-at-requires
+    sub-searched-at
+    searched-at-requires-2
+    sub-searched-at-2
+    searched-at-requires-3
+    sub-searched-at-3
+    searched-at-requires-4
     returns
     returns-2
     returns-3
     returns-4
     returns-5
     returns-6
-    returns-7
-    returns-8
-    returns-9
-    returns-10
-    returns-11
-    returns-12
-    returns-13
-    returns-14
-    returns-15
-    returns-16
-    returns-17
-    returns-18
-    returns-19
-    returns-20
-    returns-21
-    returns-22
-    returns-23
-    returns-24
-    returns-25
-    returns-26
-    returns-27
-    returns-28
-    returns-29
-    returns-30
-    returns-31
-    returns-32
-    returns-33
-    returns-34
-    returns-35
-    returns-36
-    returns-37
-    returns-38
-    returns-39
-    returns-40
-    returns-41
-    returns-42
-    returns-43
-    returns-44)
+    returns-7)
