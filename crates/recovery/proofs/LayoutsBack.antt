@@ -28,8 +28,8 @@ use Rattle.header_bytes.specs.Made.{layoutChunks, made}
 use Rattle.writer.specs.Outcome.{stores}
 use Rattle.writer.specs.Header.{headerOf, headerNumber, headerCall}
 use Rattle.writer.specs.declared.CAFWriter.{CAFWriter}
-use Rattle.writer.proofs.Tests.{two, true-false}
-use Rattle.writer.proofs.Facts.{headed as headed-of, empty, sound-alone}
+use Rattle.writer.proofs.Tests.{two}
+use Rattle.writer.proofs.Facts.{headed as headed-of, sound-alone}
 use Rattle.writer.proofs.Allowed.{header-allowed}
 use Rattle.header_bytes.proofs.Made.{made-allowed}
 use Rattle.recovery.specs.Calls.{Call, set, header, bytes, samples, finish, lend}
@@ -44,6 +44,7 @@ use Rattle.recovery.proofs.Doing.{outcome-is}
 use Rattle.recovery.proofs.Makes.{Makes, fit-makes}
 use Rattle.recovery.proofs.Formats.{Formats, run-formats}
 use Rattle.recovery.proofs.Sessions.{begun-inv, begun-formats}
+use Rattle.recovery.proofs.Uncut.{finished-headed}
 use Rattle.recovery.proofs.Remaining.{begun-by}
 use Rattle.recovery.proofs.NeverCut.{never-cut}
 
@@ -163,14 +164,6 @@ pub layout-read-back : LayoutReadBack
 layout-read-back lent earlier calls t u h =
     let s = begins lent earlier in
     session-says (run s calls) (runs s calls (begun-inv lent earlier t)) (run-formats s calls u (begun-formats lent earlier t)) (run-known s calls (begun-known lent earlier)) h
-
--- a finished record has a header
-finished-headed : (s : Session) → Inv s → s .writer .finished ≡ true → s .writer .«has_header» ≡ true
-finished-headed s i f = go (s .writer .«has_header») refl
-  where
-    go : (b : Bool) → s .writer .«has_header» ≡ b → b ≡ true
-    go true e = refl
-    go false e = absurd (true-false (sym f ∙ empty (s .writer) e (sound-alone (s .writer) (length (s .buffer)) (i .is-sound) .places) .going))
 
 pub layout-recovered : LayoutRecovered
 layout-recovered sessions t whole =

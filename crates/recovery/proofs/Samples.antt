@@ -40,6 +40,7 @@ use Rattle.recovery.specs.Calls.{Setting, format, tag, labels, configure
 use Rattle.recovery.specs.Session.{Session, isAccepted, brought, doCall, run}
 use Rattle.recovery.specs.Cut.{resting, fileOf}
 use Rattle.recovery.specs.Sessions.{CutSession, lentAgain, leftBy, begins}
+use Rattle.recovery.specs.Demand.{headerChunks}
 use Rattle.recovery.specs.Samples.{AlwaysSettled, OneFormat, SamplesFound, SamplesBack}
 use Rattle.recovery.proofs.Invariant.{Inv}
 use Rattle.recovery.proofs.Doing.{by-call, outcome-is}
@@ -85,9 +86,9 @@ always-settled lent earlier calls t u = rule-runs (begins lent earlier) (begun-i
 pub one-format : OneFormat
 one-format lent earlier calls t u h =
     let s = run (begins lent earlier) calls in
-    let f = read-back lent earlier calls t u h in
-    let given = order-given (s .writer) (s .buffer) (f .info) (f .chunks) (always-settled lent earlier calls t u) h (f .found) in
-    (given .0 ∙ sym (f .format), given .1 ∙ ap endiannessFor (sym (f .format)))
+    let f = read-back lent earlier calls t u h .found in
+    let given = order-given (s .writer) (s .buffer) (f .info) (headerChunks (s .atHeader)) (always-settled lent earlier calls t u) h (f .found) in
+    (given .0 ∙ sym (f .bills .format), given .1 ∙ ap endiannessFor (sym (f .bills .format)))
 
 -- once a header stands the byte order stays
 pub record Ordered (e : Endianness) (s : Session) : Type 0 where
@@ -206,8 +207,8 @@ module _ (s : Session) (i : Inv s) (k : Formats s) (r : Rule s) (xs : List ℤ) 
       let k' = formats-kept s k (samples xs) tt in
       let i' = keeps s (samples xs) i in
       let j = runs (doCall s (samples xs)) calls i' in
-      let f = found-as-written last j (run-formats (doCall s (samples xs)) calls typed k') (p .has-header) in
-      let given = order-given (last .writer) (last .buffer) (f .info) (f .chunks) (rule-runs (doCall s (samples xs)) i' k' calls typed (rule-kept s i k (samples xs) r)) (p .has-header) (f .found) in
+      let f = found-as-written last j (run-formats (doCall s (samples xs)) calls typed k') (p .has-header) .found in
+      let given = order-given (last .writer) (last .buffer) (f .info) (headerChunks (last .atHeader)) (rule-runs (doCall s (samples xs)) i' k' calls typed (rule-kept s i k (samples xs) r)) (p .has-header) (f .found) in
       let e : endiannessOf (f .info .format) ≡ s .writer .endianness = sym (given .1) ∙ p .order in
       let more = arrived-more (doCall s (samples xs)) calls in
       let all : last .arrived ≡ s .arrived ++ (bs ++ more .0) =
@@ -220,7 +221,7 @@ module _ (s : Session) (i : Inv s) (k : Formats s) (r : Rule s) (xs : List ℤ) 
       ∙ take-at bs (more .0) (sampleSize * length xs) (length-packed (s .writer .endianness) xs) in
       record {
         info = f .info;
-        chunks = f .chunks;
+        chunks = headerChunks (last .atHeader);
         found = f .found;
         back =
             ap (unpacked (endiannessOf (f .info .format))) there
