@@ -104,6 +104,11 @@ skip-past-limit : feed (by-hand (Skipping format Ahead fileMax) 0 (fileMax - 1) 
 unfolding phaseSound sound judged collected took step1 feed formatAt ofBits isNan
 skip-past-limit = refl
 
+-- and the count stays that of the headers met
+past-limit-count : strictCount (end (feed (by-hand (OpenData format 68) 0 (fileMax - 1) 2) (0 ∷ 0 ∷ []) .feeder)) ≡ 2
+unfolding phaseSound sound judged collected took step1 feed end formatAt ofBits isNan
+past-limit-count = refl
+
 -- more bytes held than the piece has
 unsound : feed (by-hand FileHeader 9 9 0) (0 ∷ []) ≡ record { number = 19; feeder = by-hand FileHeader 9 9 0 }
 unfolding phaseSound sound feed

@@ -3,13 +3,15 @@ use mathlib.Core.Path.{_≡_, refl, sym, _∙_, ap}
 use mathlib.Core.Bool.{true, false, true≢false}
 use mathlib.Core.List.{List, _++_, flatten}
 use Prim.Native.Nat.{ℕ}
-use lib.ListN.{length}
+use lib.ListN.{length, take}
+use lib.Seq.{take-all}
 use lib.Dec.{leb}
 use borrow.Author.Tests.{leb-true, leb-false}
 use Rattle.answers.specs.Numbers.{tooLong, fileMax}
+use Rattle.reading.specs.Answers.{strictCount}
 use Rattle.reading.specs.Strict.{strict}
 use Rattle.reading.specs.declared.StrictAnswer.{StrictAnswer}
-use Rattle.reading.specs.declared.StrictAnswer.the-variants.{Rejected}
+use Rattle.reading.specs.declared.StrictAnswer.the-variants.{Accepted, Rejected}
 use Rattle.reading.proofs.Choice.{either}
 use Rattle.feeder.specs.Record.{fresh, isByBytes}
 use Rattle.feeder.specs.End.{endAs, end}
@@ -18,7 +20,7 @@ use Rattle.feeder.specs.declared.Phase.the-variants.{FileHeader, FirstHeader, D
 use Rattle.feeder.specs.declared.Feeder.{Feeder}
 use Rattle.feeding.specs.Feed.{isRefused, feedBytes, feedAll}
 use Rattle.fed.specs.Answer.{cutOff, fedAnswer}
-use Rattle.fed.specs.Claims.{FedIsStrict, FedTooLong, FedIs, GivenByBytes}
+use Rattle.fed.specs.Claims.{FedIsStrict, FedTooLong, FedIs, FedCounts, GivenByBytes}
 use Rattle.fed.proofs.At.{At, Follows}
 use Rattle.fed.proofs.Whole.{part-follows, bytes-strict}
 use Rattle.fed.proofs.Cut.{end-joined}
@@ -36,6 +38,21 @@ fed-is blocks =
     either (λ (x : StrictAnswer). end (feedAll fresh blocks) ≡ x) (leb (length (flatten blocks)) fileMax)
     (λ e. fed-is-strict blocks (leb-true (length (flatten blocks)) fileMax e))
     (λ e. fed-too-long blocks (leb-false (length (flatten blocks)) fileMax e))
+
+-- TooLong keeps the count
+off-count : (a : StrictAnswer) → strictCount (cutOff a) ≡ strictCount a
+off-count (Accepted v k) = refl
+off-count (Rejected number k) = refl
+
+answer-count : (s : List ℕ) → strictCount (fedAnswer s) ≡ strictCount (strict (take fileMax s))
+unfolding fedAnswer
+answer-count s =
+    either (λ (x : StrictAnswer). strictCount x ≡ strictCount (strict (take fileMax s))) (leb (length s) fileMax)
+    (λ e. ap (λ (x : List ℕ). strictCount (strict x)) (sym (take-all fileMax s (leb-true (length s) fileMax e))))
+    (λ e. off-count (strict (take fileMax s)))
+
+pub fed-counts : FedCounts
+fed-counts blocks = ap strictCount (fed-is blocks) ∙ answer-count (flatten blocks)
 
 -- a record whose end is a refusal that the bytes gave stands at that refusal
 waits : (number k j : ℕ) → isByBytes number ≡ true → Rejected number k ≡ Rejected tooLong j → ⊥

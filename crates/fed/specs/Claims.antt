@@ -5,6 +5,7 @@ use mathlib.Core.Bool.{true, false}
 use mathlib.Core.List.{List, [], _++_, flatten}
 use lib.ListN.{length, take}
 use Rattle.answers.specs.Numbers.{badWriter, fileMax}
+use Rattle.reading.specs.Answers.{strictCount}
 use Rattle.reading.specs.Strict.{strict}
 use Rattle.reading.specs.declared.StrictAnswer.the-variants.{Rejected}
 use Rattle.feeder.specs.Record.{heldRoom, fresh, isByBytes, sound}
@@ -27,6 +28,10 @@ FedTooLong = (blocks : List (List ℕ)) → fileMax < length (flatten blocks) �
 -- both at once
 abbrev pub FedIs : Type 0
 FedIs = (blocks : List (List ℕ)) → end (feedAll fresh blocks) ≡ fedAnswer (flatten blocks)
+
+-- and whatever the answer is, TooLong too, its count is that of the chunk headers which the strict reading meets up to the limit
+abbrev pub FedCounts : Type 0
+FedCounts = (blocks : List (List ℕ)) → strictCount (end (feedAll fresh blocks)) ≡ strictCount (strict (take fileMax (flatten blocks)))
 
 -- the refusals that the bytes give are the strict reading's whatever follows
 abbrev pub GivenByBytes : Type 0

@@ -1,21 +1,17 @@
 -- The number of a call is that of its definition: refused with it, or done.
 use mathlib.Core.Path.{_≡_, refl, sym, _∙_, ap}
 use mathlib.Core.Bool.{Bool, true, false, cond}
-use mathlib.Core.List.{List}
-use Prim.Native.Nat.{ℕ, _*_}
-use lib.ListN.{length}
-use lib.IntN.{ℤ}
+use Prim.Native.Nat.{ℕ}
 use lib.Dec.{eqb}
 use borrow.Author.Tests.{eqb-true}
 use Rattle.answers.specs.Numbers.{done}
-use Rattle.pcm.specs.Packing.{packed}
 use Rattle.pcm.proofs.Packed.{length-packed}
 use Rattle.writer.specs.Outcome.{Outcome, unchanged, unlessRefused, stores}
 use Rattle.writer.specs.Record.{asFinished}
-use Rattle.writer.specs.Header.{headerNumber, headerCall}
-use Rattle.writer.specs.Data.{dataNumber, dataCall, samplesNumber, samplesCall}
-use Rattle.writer.specs.Finish.{finishNumber, finalSize, finishCall}
-use Rattle.writer.specs.Resume.{resumed, resumeCall}
+use Rattle.writer.specs.Header.{headerCall}
+use Rattle.writer.specs.Data.{dataCall, samplesNumber, samplesCall}
+use Rattle.writer.specs.Finish.{finalSize, finishCall}
+use Rattle.writer.specs.Resume.{resumeCall}
 use Rattle.writer.specs.Overview.{overviewCall}
 use Rattle.writer.specs.Settings.{formatCall, tagCall, labelsCall, configureCall, groupCall}
 use Rattle.writer.specs.declared.CAFWriter.{CAFWriter}

@@ -11,7 +11,7 @@ use Rattle.format.specs.Setting.{formatNumber}
 use Rattle.format.specs.declared.PCMDataType.{PCMDataType}
 use Rattle.format.specs.declared.Endianness.{Endianness}
 use Rattle.layout.specs.Setting.{tagNumber, labelsNumber}
-use Rattle.pcm.specs.Packing.{packNumber}
+use Rattle.pcm.specs.Packing.{sampleSize, packNumber}
 use Rattle.pcm.specs.Unpacking.{unpackNumber}
 use Rattle.writer.specs.Header.{headerNumber, headerCall}
 use Rattle.writer.specs.Data.{dataNumber, dataCall, samplesNumber, samplesCall}
@@ -42,7 +42,7 @@ pub record GivenExactly : Type 0 where
 pub record NumbersOfCalls : Type 0 where
   pub header : (w : CAFWriter) (room : ℕ) → headerCall w room .number ≡ headerNumber w room
   pub bytes : (w : CAFWriter) (room : ℕ) (bytes : List ℕ) → dataCall w room bytes .number ≡ dataNumber w room (length bytes)
-  pub samples : (w : CAFWriter) (room : ℕ) (xs : List ℤ) → samplesCall w room xs .number ≡ samplesNumber w room (3 * length xs)
+  pub samples : (w : CAFWriter) (room : ℕ) (xs : List ℤ) → samplesCall w room xs .number ≡ samplesNumber w room (sampleSize * length xs)
   pub finish : (w : CAFWriter) (room : ℕ) → finishCall w room .number ≡ finishNumber w room
   pub resume : (buf : List ℕ) (len : ℕ) → resumeCall buf len .number ≡ resumed buf len .number
   pub overview : (w : CAFWriter) (buf : List ℕ) → overviewCall w buf .number ≡ overviewNumber w (length buf)

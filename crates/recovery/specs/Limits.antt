@@ -124,7 +124,7 @@ limitRows =
     eqb (strictCount (strict (take 20 (sized 4 [])))) 1 ∷
     eqb (strictOf (take 51 (sized 4 []))) 1 ∷
     eqb (strictOf (take 52 (sized 4 []))) 3 ∷
-    -- the edit count has 4; so no data are smaller, and none go past the end; -1 is the only negative size
+    -- the edit count has 4: a smaller size is bad, a larger one than stands there goes past the end; of the negative ones -1 is open
     eqb (strictOf (take 67 (sized 4 []))) 1 ∷
     eqb (strictOf (sized 3 [])) 4 ∷
     isClosedWith (strict (sized 4 [])) 0 ∷
