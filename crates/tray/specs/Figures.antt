@@ -1,5 +1,5 @@
 -- 02, T-10: one small tray, read and made, and the most clips. The bytes and numbers are written out, so that a width, an order, a limit or
--- a place that is changed in every definition alike is not so here. The theorem `tray-rows` of proofs/ says that all hold.
+-- a place that is changed in every definition alike is not so here. The theorem `tray-figures` of proofs/ says that all hold.
 use Prim.Native.Nat.{ℕ}
 use mathlib.Core.Path.{_≡_}
 use mathlib.Core.List.{List, [], _∷_, _++_}
@@ -24,7 +24,7 @@ field n = 0 ∷ 0 ∷ 0 ∷ 0 ∷ 0 ∷ 0 ∷ 0 ∷ n ∷ []
 abbrev pub two : ℕ → ℕ → List ℕ
 two start size = 0 ∷ 0 ∷ 0 ∷ 2 ∷ (field 36 ++ field 73 ++ field start ++ field size ++ film)
 
-pub record TrayRows : Type 0 where
+pub record TrayFigures : Type 0 where
   -- number, chunk count, payload, frames; DataPastEnd keeps its chunk count; the ninth place is as it was
   pub read : trayInto (two 36 74) (replicate 9 7) ≡ 8 ∷ 2 ∷ 0 ∷ 0 ∷ 0 ∷ 2 ∷ 6 ∷ 1 ∷ 7 ∷ []
   -- two clips take eight places; a refusal writes nothing
