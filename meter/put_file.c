@@ -1,3 +1,4 @@
+/* Written beside, synced, renamed: put_file.h says what that is for. */
 #define _GNU_SOURCE
 #define _FILE_OFFSET_BITS 64
 #include <errno.h>

@@ -12,7 +12,7 @@ const char *cannot_put(const char *name, bool force);
 
 /* Puts a file, or says why not. It is written beside its name under another one, and gets its own once it is whole
  * and on the disk. Where that fails, or SIGINT, SIGTERM or SIGHUP ends the program, what was there is
- * still there and nothing else is. */
+ * still there and nothing else is. (SIGKILL leaves the other file, `.put-XXXXXX`.) */
 const char *put_file(const char *name, bool force, const uint8_t *bytes, size_t len);
 
 #endif
