@@ -204,10 +204,12 @@ uint32_t caf_feed_end(const uint64_t *feeder, size_t feeder_len, uint64_t *out, 
  * may lie in none.
  *
  *     number = caf_read_tray(tray, tray_len, out, CAF_CLIP * CAF_TRAY_MOST);
- *     for (i = 0; number == CAF_DONE && i < count; i++)
+ *     count = number == CAF_DONE ? tray[2] << 8 | tray[3] : 0;
+ *     for (i = 0; i < count; i++)
  *         if (out[CAF_CLIP * i + CAF_CLIP_NUMBER] == CAF_DONE)
  *             payload += out[CAF_CLIP * i + CAF_CLIP_PAYLOAD];
- */
+ *
+ * The format of a clip that is accepted stands in the clip itself: the body of `desc` is its bytes 20 to 51. */
 enum {
     CAF_TRAY_MOST = 4096, /* clips of a tray */
     CAF_TRAY_COUNT = 4,   /* bytes of the count */

@@ -1,4 +1,4 @@
-/* Files for tests/numbers.c: each has one fault and, where one file can have both, the fault that a reading tests for next. */
+/* Files for the tests in C: each has one fault and, where one file can have both, the fault that a reading tests for next. */
 #ifndef FAULTY_FILES_H
 #define FAULTY_FILES_H
 
@@ -59,6 +59,19 @@ static const struct file end_files[] = {
     FILE_OF(CAF_DATA_PAST_END, CAFF DESC DATA("\xff")),
 };
 static const struct file good[] = {FILE_OF(CAF_DONE, CAFF DESC DATA("\4"))};
+
+/* Films without a fault, and what is read of them. A packet has 6 bytes. */
+struct film {
+    struct file file;
+    uint64_t chunks, payload, frames;
+};
+
+static const struct film films[] = {
+    {FILE_OF(CAF_DONE, CAFF DESC DATA("\4")), 2, 0, 0},
+    {FILE_OF(CAF_DONE, CAFF DESC DATA("\x11") "13 bytes here"), 2, 13, 2},
+    {FILE_OF(CAF_DONE, CAFF DESC "data\xff\xff\xff\xff\xff\xff\xff\xff\0\0\0\0open"), 2, 4, 0},
+    {FILE_OF(CAF_DONE, CAFF DESC "free" ZEROS "\4data" DATA("\x0a") "sample" "info" ZEROS "\x0c" "data\xff\xff\xff\xff\xff\xff\xff\xff"), 4, 6, 1},
+};
 
 #define COUNT(array) (sizeof(array) / sizeof *(array))
 
