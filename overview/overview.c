@@ -35,6 +35,7 @@
 #include "mapped.h"
 #include "names.h"
 #include "overview.h"
+#include "put_file.h"
 
 static const char usage[] = "usage: overview [--] FILE\n"
                             "       overview --svg OUT [--force] [--] FILE\n"
@@ -54,27 +55,46 @@ static int complain(int status, const char *name, const char *why) {
     return status;
 }
 
-/* Writes the picture into a file; a failure leaves what was there. */
-static int show_svg(const struct options *options, const struct overview *overview) {
-    char why[WHY];
-    struct out out;
-    const char *fault = out_begin(&out, options->svg, options->force);
+/* Why no picture can be put under this name, or NULL. No film is ever overwritten, the one that is shown least of all. */
+static const char *cannot_draw(const char *name, bool force) {
+    const char *fault = cannot_put(name, force);
+    char type[4] = "";
+    FILE *file = fault ? NULL : fopen(name, "rb");
 
+    if (file != NULL) {
+        if (fread(type, 1, sizeof type, file) == sizeof type && memcmp(type, "caff", sizeof type) == 0)
+            fault = "it is a film";
+        fclose(file);
+    }
+    return fault;
+}
+
+/* Draws the picture in memory, which it takes little of, and puts it into its file. */
+static int show_svg(const struct options *options, const struct overview *overview) {
+    const char *fault = NULL;
+    char why[WHY] = "", *text = NULL;
+    size_t len = 0;
+    FILE *sheet = open_memstream(&text, &len);
+    bool whole = sheet != NULL && print_svg(sheet, overview, why);
+
+    if (sheet == NULL || fclose(sheet) != 0)
+        fault = strerror(errno);
+    else if (whole)
+        fault = put_file(options->svg, options->force, (const uint8_t *)text, len);
+    free(text);
     if (fault)
         return complain(2, options->svg, fault);
-    if (!print_svg(out.file, overview, why)) {
-        out_drop(&out);
-        return complain(1, overview->name, why);
-    }
-    fault = out_end(&out);
-    return fault ? complain(2, options->svg, fault) : 0;
+    return whole ? 0 : complain(1, overview->name, why);
 }
 
 static int show(const struct options *options, const char *name) {
     static struct overview overview;
+    const char *fault = options->svg ? cannot_draw(options->svg, options->force) : NULL;
     char why[WHY];
     int status;
 
+    if (fault)
+        return complain(2, options->svg, fault);
     if (!overview_open(&overview, name, why))
         status = complain(1, name, why);
     else if (options->svg)

@@ -52,18 +52,6 @@ bool print_text(const struct overview *overview, char why[WHY]);
 bool print_json(const struct overview *overview, char why[WHY]);
 bool print_svg(FILE *out, const struct overview *overview, char why[WHY]);
 
-/* A file that is written beside its name, and gets it when it is whole (out.c). All but out_drop give NULL, or why
- * not. Without `force` a name that exists is refused; with it, one that is no regular file, or is a film. */
-struct out {
-    const char *name;
-    char *part;
-    FILE *file;
-    bool force;
-};
-const char *out_begin(struct out *out, const char *name, bool force);
-const char *out_end(struct out *out);
-void out_drop(struct out *out);
-
 /* How far it is, on a terminal, where that takes long (progress.c). */
 void progress_begin(const char *name);
 void progress_tell(uint64_t done, uint64_t all);
