@@ -97,11 +97,6 @@ static bool refused(uint32_t number, char why[WHY]) {
     return false;
 }
 
-static bool too_many(uint64_t count, const char *of_what, uint64_t most, char why[WHY]) {
-    snprintf(why, WHY, "it has %" PRIu64 " %s, and at most %" PRIu64 " can be shown", count, of_what, most);
-    return false;
-}
-
 static bool take_stored(struct overview *overview, const struct found *found, char why[WHY]) {
     if (found->shows != CAF_DONE)
         return refused(found->shows, why);
@@ -110,24 +105,23 @@ static bool take_stored(struct overview *overview, const struct found *found, ch
     overview->frames_per_sample = (uint32_t)found->picture[CAF_PICTURE_FRAMES];
     overview->start = found->place[CAF_OVERVIEW_START];
     overview->groups = (found->place[CAF_OVERVIEW_SIZE] - BODY_HEAD) / 4 / overview->channels;
-    return overview->groups <= UINT32_MAX || too_many(overview->groups, "overview samples", UINT32_MAX, why);
+    return true;
 }
 
-static bool take_worked_out(struct overview *overview, const struct found *found, char why[WHY]) {
+static bool take_samples(struct overview *overview, const struct found *found, char why[WHY]) {
     const uint64_t frames = found->strict[CAF_STRICT_FRAMES];
-    struct film_track track;
     struct film_fault fault;
 
-    if (film_usual_overview(overview->fd, found->strict, &track, &overview->frames_per_sample, &fault) != FILM_DONE) {
+    if (film_usual_overview(overview->fd, found->strict, &overview->track, &overview->frames_per_sample, &fault) != FILM_DONE) {
         film_words(&fault, why, WHY);
         return false;
     }
     overview->edits = overview->data_edits;
     overview->groups = frames / overview->frames_per_sample + (frames % overview->frames_per_sample > 0);
-    return work_out(overview, &track, why);
+    return true;
 }
 
-bool overview_open(struct overview *overview, const char *name, char why[WHY]) {
+bool overview_find(struct overview *overview, const char *name, char why[WHY]) {
     static struct found found;
     uint64_t len;
     const char *fault;
@@ -146,10 +140,8 @@ bool overview_open(struct overview *overview, const char *name, char why[WHY]) {
     overview->rate = found.strict[CAF_STRICT_RATE];
     overview->channels = (uint32_t)found.strict[CAF_STRICT_CHANNELS];
     overview->data_edits = found.data_edits;
-    if (overview->channels > MOST_CHANNELS)
-        return too_many(overview->channels, "channels", MOST_CHANNELS, why);
     label(overview, &found);
-    return (found.place[CAF_OVERVIEW_FOUND] ? take_stored : take_worked_out)(overview, &found, why);
+    return (found.place[CAF_OVERVIEW_FOUND] ? take_stored : take_samples)(overview, &found, why);
 }
 
 void overview_close(struct overview *overview) {

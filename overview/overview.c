@@ -95,7 +95,7 @@ static int show(const struct options *options, const char *name) {
 
     if (fault)
         return complain(2, options->svg, fault);
-    if (!overview_open(&overview, name, why))
+    if (!overview_find(&overview, name, why) || !overview_ready(&overview, why))
         status = complain(1, name, why);
     else if (options->svg)
         status = show_svg(options, &overview);
@@ -118,7 +118,7 @@ static int print_added(const char *name) {
     char why[WHY];
     int status = 0;
 
-    if (overview_open(&overview, name, why)) {
+    if (overview_find(&overview, name, why)) {
         fputs("added, ", stdout);
         describe(stdout, &overview);
         fputs(": ", stdout);

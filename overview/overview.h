@@ -9,8 +9,10 @@
 
 #include "pairs.h"
 
-/* More are not shown: what is kept in memory is so many times a picture's width, or the samples that are worked out. */
+/* More are not shown. What is kept in memory is so many times a picture's width, or the samples that are worked out; and
+ * a group's place times the width fits 64 bits. */
 enum { MOST_CHANNELS = 1024 };
+static const uint64_t MOST_GROUPS = UINT32_MAX;
 
 /* Room for why a film cannot be shown. */
 enum { WHY = 200 };
@@ -24,25 +26,27 @@ struct overview {
     uint64_t groups;            /* overview samples for each channel */
     uint32_t edits, data_edits; /* the edit count of the data that it was made of, and theirs now */
     uint64_t start;             /* where the body of a stored one stands */
-    int16_t *pairs;             /* of one that was worked out: all of them */
+    struct film_track track;    /* where the samples stand of which one is worked out, and */
+    int16_t *pairs;             /* all pairs of it */
     size_t labelled;            /* how many channels have a label; CAF_LABEL_UNKNOWN is one without a name */
     uint32_t labels[MOST_CHANNELS];
 };
 
-/* Finds the overview of a film, or works it out; or says why not (find.c). overview_close is due after either. */
-bool overview_open(struct overview *overview, const char *name, char why[WHY]);
+/* Finds the overview of a film, or where it could be worked out from; or says why not (find.c). overview_close is due
+ * after either. */
+bool overview_find(struct overview *overview, const char *name, char why[WHY]);
 void overview_close(struct overview *overview);
+
+/* Makes it ready to be shown: works it out where it is not stored; or says why not (stream.c). */
+bool overview_ready(struct overview *overview, char why[WHY]);
 
 /* The name of a channel by its label, or by its place from 1 on (find.c). */
 enum { CHANNEL_NAME = 40 };
 const char *channel_name(const struct overview *overview, uint32_t channel, char name[CHANNEL_NAME]);
 
-/* Hands on all pairs, in their order: each time those of one or more whole groups (stream.c). False: `why` says what
+/* Hands on all pairs of one that is ready, in their order: each time those of one or more whole groups (stream.c). False: `why` says what
  * went wrong, or is empty where `take` wanted no more. */
 bool overview_stream(const struct overview *overview, film_take_pairs *take, void *self, char why[WHY]);
-
-/* Works out the pairs of a film that has no overview, in memory (stream.c). */
-bool work_out(struct overview *overview, const struct film_track *track, char why[WHY]);
 
 /* What it is, in a few words: "overview samples 3000, frames per sample 16, channels 6, rate 48000" (text.c). */
 void describe(FILE *out, const struct overview *overview);

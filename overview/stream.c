@@ -1,5 +1,6 @@
 /* The pairs of an overview, one group after the other: out of the film by the proved reader, or worked out. */
 #include <errno.h>
+#include <inttypes.h>
 #include <stdlib.h>
 #include <string.h>
 
@@ -70,7 +71,7 @@ static bool keep(void *self, const int16_t *pairs, size_t count) {
     return true;
 }
 
-bool work_out(struct overview *overview, const struct film_track *track, char why[WHY]) {
+static bool work_out(struct overview *overview, char why[WHY]) {
     struct kept kept = {overview, 0, (size_t)overview->groups * overview->channels * 2};
     struct film_fault fault;
     enum film_error error;
@@ -82,7 +83,20 @@ bool work_out(struct overview *overview, const struct film_track *track, char wh
         return false;
     }
     progress_begin(overview->name);
-    error = film_pairs(overview->fd, track, overview->frames_per_sample, keep, &kept, &fault);
+    error = film_pairs(overview->fd, &overview->track, overview->frames_per_sample, keep, &kept, &fault);
     progress_end();
     return error == FILM_DONE || fail(&fault, why);
+}
+
+static bool too_many(uint64_t count, const char *of_what, uint64_t most, char why[WHY]) {
+    snprintf(why, WHY, "it has %" PRIu64 " %s, and at most %" PRIu64 " can be shown", count, of_what, most);
+    return false;
+}
+
+bool overview_ready(struct overview *overview, char why[WHY]) {
+    if (overview->channels > MOST_CHANNELS)
+        return too_many(overview->channels, "channels", MOST_CHANNELS, why);
+    if (overview->groups > MOST_GROUPS)
+        return too_many(overview->groups, "overview samples", MOST_GROUPS, why);
+    return overview->is_stored || work_out(overview, why);
 }

@@ -47,8 +47,10 @@ static bool is_utf8(void) {
 
     for (i = 0; i < 3 && !(text && *text); i++)
         text = getenv(variables[i]);
+    /* language, dot, characters; some set the last alone */
     dot = text ? strchr(text, '.') : NULL;
-    return dot && (strncasecmp(dot, ".utf-8", 6) == 0 || strncasecmp(dot, ".utf8", 5) == 0);
+    text = dot ? dot + 1 : text;
+    return text && (strncasecmp(text, "utf-8", 5) == 0 || strncasecmp(text, "utf8", 4) == 0);
 }
 
 void describe(FILE *out, const struct overview *overview) {
