@@ -34,8 +34,8 @@
 
 #include "mapped.h"
 #include "names.h"
+#include "out.h"
 #include "overview.h"
-#include "put_file.h"
 
 static const char usage[] = "usage: overview [--] FILE\n"
                             "       overview --svg OUT [--force] [--] FILE\n"
@@ -55,54 +55,55 @@ static int complain(int status, const char *name, const char *why) {
     return status;
 }
 
-/* Why no picture can be put under this name, or NULL. No film is ever overwritten, the one that is shown least of all. */
-static const char *cannot_draw(const char *name, bool force) {
-    const char *fault = cannot_put(name, force);
+/* Whether a file begins as a film does. */
+static bool is_film(const char *name) {
     char type[4] = "";
-    FILE *file = fault ? NULL : fopen(name, "rb");
+    FILE *file = fopen(name, "rb");
+    bool is = file != NULL && fread(type, 1, sizeof type, file) == sizeof type && memcmp(type, "caff", sizeof type) == 0;
 
-    if (file != NULL) {
-        if (fread(type, 1, sizeof type, file) == sizeof type && memcmp(type, "caff", sizeof type) == 0)
-            fault = "it is a film";
+    if (file != NULL)
         fclose(file);
-    }
-    return fault;
+    return is;
 }
 
-/* Draws the picture in memory, which it takes little of, and puts it into its file. */
-static int show_svg(const struct options *options, const struct overview *overview) {
-    const char *fault = NULL;
-    char why[WHY] = "", *text = NULL;
-    size_t len = 0;
-    FILE *sheet = open_memstream(&text, &len);
-    bool whole = sheet != NULL && print_svg(sheet, overview, why);
+/* Begins the file of a picture, or says why not. No film is ever overwritten, the one that is shown least of all. */
+static const char *begin_picture(struct out *out, const struct options *options) {
+    const char *fault = out_begin(out, options->svg, options->force);
 
-    if (sheet == NULL || fclose(sheet) != 0)
-        fault = strerror(errno);
-    else if (whole)
-        fault = put_file(options->svg, options->force, (const uint8_t *)text, len);
-    free(text);
+    if (fault || !is_film(options->svg))
+        return fault;
+    out_drop(out);
+    return "it is a film";
+}
+
+static int draw(const struct options *options, struct overview *overview, const char *name) {
+    struct out out;
+    const char *fault = begin_picture(&out, options);
+    char why[WHY];
+
     if (fault)
         return complain(2, options->svg, fault);
-    return whole ? 0 : complain(1, overview->name, why);
+    if (!overview_find(overview, name, why) || !overview_ready(overview, why) || !print_svg(out.file, overview, why)) {
+        out_drop(&out);
+        return complain(1, name, why);
+    }
+    fault = out_end(&out);
+    return fault ? complain(2, options->svg, fault) : 0;
+}
+
+static int print(const struct options *options, struct overview *overview, const char *name) {
+    char why[WHY];
+
+    if (overview_find(overview, name, why) && overview_ready(overview, why) && (options->json ? print_json : print_text)(overview, why))
+        return 0;
+    /* where the output could not be written there is no more to say here */
+    return why[0] ? complain(1, name, why) : 2;
 }
 
 static int show(const struct options *options, const char *name) {
-    static struct overview overview;
-    const char *fault = options->svg ? cannot_draw(options->svg, options->force) : NULL;
-    char why[WHY];
-    int status;
+    static struct overview overview = {.fd = -1};
+    int status = (options->svg ? draw : print)(options, &overview, name);
 
-    if (fault)
-        return complain(2, options->svg, fault);
-    if (!overview_find(&overview, name, why) || !overview_ready(&overview, why))
-        status = complain(1, name, why);
-    else if (options->svg)
-        status = show_svg(options, &overview);
-    else if ((options->json ? print_json : print_text)(&overview, why))
-        status = 0;
-    else /* where the output could not be written there is no more to say here */
-        status = why[0] ? complain(1, name, why) : 2;
     overview_close(&overview);
     return status;
 }
