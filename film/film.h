@@ -138,6 +138,23 @@ enum film_error film_close(struct film *film);
 /* How many data bytes of the film, of all sessions, are in the file. */
 uint64_t film_arrived(const struct film *film);
 
+/* ---- a waveform overview after the data */
+
+/* Appends the overview to a finished film, the chunk that caf_append_overview makes, with so many frames per
+ * sample. The data are read in blocks, so that memory stays flat however long the film is. When it returns all
+ * of the film is on the disk. Refused with the number that caf_append_overview gives: CAF_NO_HEADER, CAF_NOT_CLOSED
+ * before film_finish, CAF_TAIL_AFTER_DATA for a second overview, CAF_NO_GROUP for 0 frames, CAF_WRONG_WIDTH. */
+enum film_error film_append_overview(struct film *film, uint32_t frames_per_sample);
+
+/* Told from time to time how many of the payload's bytes are worked out. */
+typedef void film_progress(void *self, uint64_t done, uint64_t payload);
+
+/* Appends an overview in place to a closed film on disk that no one has open; every byte before it stays as it was.
+ * 0 frames per sample: so many that 2,000 to 4,000 samples come out, one for each frame of a shorter film. `progress`
+ * may be NULL. *fault says what it gives back. */
+enum film_error film_add_overview(const char *path, uint32_t frames_per_sample, film_progress *progress, void *self,
+                                  struct film_fault *fault);
+
 /* ---- recovery */
 
 /* What a film was, by its size field: that is all that a cut leaves. Where two causes leave the same bytes
