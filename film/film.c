@@ -213,8 +213,10 @@ enum film_error film_close(struct film *film) {
 
 uint64_t film_arrived(const struct film *film) {
     uint64_t start = film->record[CAF_RECORD_DATA_START];
+    /* what follows the data of a finished film is its overview */
+    uint64_t end = film->record[CAF_RECORD_FINISHED] ? film->record[CAF_RECORD_FILE_LEN] : film->length;
 
-    return film->record[CAF_RECORD_HAS_HEADER] && film->length > start ? film->length - start : 0;
+    return film->record[CAF_RECORD_HAS_HEADER] && end > start ? end - start : 0;
 }
 
 /* Of errors that no number or errno explains. */

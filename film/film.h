@@ -166,7 +166,8 @@ enum film_state {
     FILM_CUT_IN_FINISH = 3, /* bytes of its true size, then of -1; or finished at this size and shortened */
     FILM_CUT_IN_REOPEN = 4, /* bytes of -1, then of its true size, which a cut finish may end with -1 */
     FILM_SHORTENED = 5,     /* a size beyond its end that no cut leaves: it was longer once */
-    FILM_NEGATIVE = 6       /* a negative size that no cut leaves */
+    FILM_NEGATIVE = 6,      /* a negative size that no cut leaves */
+    FILM_CUT_OVERVIEW = 7   /* its true size, and after the data the first bytes of an overview */
 };
 
 /* What a recovery found, and made or would make. */
@@ -178,6 +179,7 @@ struct film_report {
     uint64_t size_field;      /* before; 0 where it was closed */
     uint64_t payload_now, frames_now;
     uint64_t tail; /* bytes of other chunks after the data of a closed film */
+    uint64_t cut;  /* bytes of a cut overview, which are taken off */
 };
 
 /* Closes a film in place, by resume and finish: its payload is then all that arrived. One that is closed is

@@ -8,12 +8,16 @@
 #endif
 
 #include "film.h"
+#include "pairs.h"
 
 /* Data go to the disk in pieces of at most so many bytes. */
 enum { FILM_PIECE = 1 << 20 };
 
 /* The size field of a data chunk. */
 enum { FILM_FIELD = 8 };
+
+/* A sample of 24 bits; and of an overview the bytes before its pairs: name, size, edit count, frames per sample. */
+enum { FILM_SAMPLE = 3, FILM_OVERVIEW_HEAD = 20 };
 
 /* The number in a size field. */
 static inline uint64_t film_big(const uint8_t *field) {
@@ -23,6 +27,16 @@ static inline uint64_t film_big(const uint8_t *field) {
     for (i = 0; i < FILM_FIELD; i++)
         number = number << 8 | field[i];
     return number;
+}
+
+/* Puts a number as `width` bytes, from the most significant one. */
+static inline void film_put_big(uint8_t *at, uint64_t number, int width) {
+    for (; width > 0; number >>= 8)
+        at[--width] = (uint8_t)number;
+}
+
+static inline uint64_t film_least(uint64_t a, uint64_t b) {
+    return a < b ? a : b;
 }
 
 /* ---- window.c: address space for a film. All but film_window_close give 0, or -1 and an errno. */
@@ -84,5 +98,43 @@ struct film_overlay {
 /* caf_read_strict of the film's file, with `instead` where that is not NULL. *number is its answer. */
 enum film_error film_strict(struct film *film, const struct film_overlay *instead, uint32_t *number,
                             uint64_t out[CAF_STRICT_PLACES]);
+
+/* ---- overview.c */
+
+/* Makes the record of a film whose strict reading found it closed, as a finish leaves it. In memory alone. */
+enum film_error film_adopt(struct film *film, const uint64_t strict[CAF_STRICT_PLACES]);
+/* Where the samples of a finished film stand, by its record. */
+struct film_track film_track_of(const struct film *film);
+/* The number that caf_append_overview has for the film, if there is room: CAF_DONE or its refusal. */
+uint32_t film_overview_number(struct film *film, uint32_t group);
+/* The size of the chunk, which is that of its body. */
+uint64_t film_overview_size(uint32_t channels, uint64_t groups);
+
+/* Takes off what stands in the file from `end` on, unless another program made it longer or shorter. */
+enum film_error film_take_off(struct film *film, uint64_t end);
+
+/* ---- cut.c */
+
+/* Whether an overview stands after the data, and where the last chunk ends that the file has whole. */
+struct film_chunks {
+    bool has_overview;
+    uint64_t whole;
+};
+
+enum film_error film_walk(struct film *film, struct film_chunks *chunks);
+
+/* Whether the bytes from `at` on are the first of an overview that film_append_overview or film_add_overview
+ * would write there. `strict` is the reading of the film before it, a closed one. */
+enum film_error film_begins_overview(struct film *film, const uint64_t strict[CAF_STRICT_PLACES], uint64_t at,
+                                     bool *does);
+
+/* A closed film that ends within its overview: up to `end` it is what it was before. */
+struct film_cut {
+    bool found;
+    uint64_t end, payload, frames;
+};
+
+/* Looks whether the film, which the strict reading refuses with CAF_CUT_SHORT, is such a one. */
+enum film_error film_find_cut(struct film *film, struct film_cut *cut);
 
 #endif

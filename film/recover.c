@@ -35,6 +35,9 @@ static void print_was(const struct film_report *report) {
     case FILM_CUT_IN_REOPEN:
         fputs("cut in its reopening", stdout);
         break;
+    case FILM_CUT_OVERVIEW:
+        printf("cut in its overview, of which %" PRIu64 " bytes are there", report->cut);
+        break;
     case FILM_SHORTENED:
         printf("shorter than its size field says, which is payload %" PRIu64, report->size_field - 4);
         break;
@@ -54,8 +57,8 @@ static void print_now(const struct film_report *report, bool dry_run) {
             printf(", with %" PRIu64 " bytes of other chunks after its data", report->tail);
         return;
     }
-    printf("; %s closed, payload %" PRIu64 " frames %" PRIu64, dry_run ? "would be" : "now",
-           report->payload_now, report->frames_now);
+    printf("; %s closed%s, payload %" PRIu64 " frames %" PRIu64, dry_run ? "would be" : "now",
+           report->state == FILM_CUT_OVERVIEW ? " without it" : "", report->payload_now, report->frames_now);
 }
 
 /* The name stands last, as in the meter's lines: whatever it says, the line begins with what was found. */

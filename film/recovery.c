@@ -50,6 +50,15 @@ static enum film_error open_to_recover(struct film *film, const char *path, bool
     return film_disk_length(film->fd, &film->length) < 0 ? film_stop(film, FILM_SYSTEM, errno) : FILM_DONE;
 }
 
+/* Whether all that follows the data of a film without payload is the overview of nothing. */
+static enum film_error is_overview(struct film *film, const struct film_report *report,
+                                   const uint64_t out[CAF_STRICT_PLACES], bool *is) {
+    *is = false;
+    if (report->tail != FILM_OVERVIEW_HEAD)
+        return FILM_DONE;
+    return film_begins_overview(film, out, out[CAF_STRICT_DATA_START], is);
+}
+
 /* The strict reading as it is. *closed says whether there is nothing to do. */
 static enum film_error read_before(struct film *film, struct film_report *report, bool *closed) {
     uint64_t out[CAF_STRICT_PLACES];
@@ -63,7 +72,7 @@ static enum film_error read_before(struct film *film, struct film_report *report
         report->tail = film->length - out[CAF_STRICT_DATA_START] - out[CAF_STRICT_PAYLOAD];
     /* a killed writer of another house leaves this, and its audio reads as chunks: resume refuses it */
     if (*closed && report->payload == 0 && report->tail > 0)
-        *closed = false;
+        return is_overview(film, report, out, closed);
     return FILM_DONE;
 }
 
@@ -105,8 +114,16 @@ static enum film_error carry_out(struct film *film, const struct fields *fields)
     return film_sync(film);
 }
 
+/* Whether the film can be written to. */
+static enum film_error may_write(struct film *film, const char *path, bool dry_run, int denied) {
+    if (dry_run && faccessat(AT_FDCWD, path, W_OK, AT_EACCESS) < 0)
+        return film_stop(film, FILM_SYSTEM, errno);
+    return !dry_run && denied != 0 ? film_stop(film, FILM_SYSTEM, denied) : FILM_DONE;
+}
+
 static enum film_error recover(struct film *film, const char *path, bool dry_run,
                                struct film_report *report) {
+    struct film_cut cut = {false, 0, 0, 0};
     struct fields fields;
     bool closed = false;
     int denied;
@@ -120,15 +137,23 @@ static enum film_error recover(struct film *film, const char *path, bool dry_run
         report->frames_now = report->frames;
         return FILM_DONE;
     }
-    if (plan(film, report, &fields) != FILM_DONE)
+    if (report->number == CAF_CUT_SHORT && film_find_cut(film, &cut) != FILM_DONE)
         return film->fault.error;
-    if (dry_run && faccessat(AT_FDCWD, path, W_OK, AT_EACCESS) < 0)
-        return film_stop(film, FILM_SYSTEM, errno);
+    if (cut.found) {
+        report->state = FILM_CUT_OVERVIEW;
+        report->payload_now = cut.payload;
+        report->frames_now = cut.frames;
+        report->cut = film->length - cut.end;
+    } else if (plan(film, report, &fields) != FILM_DONE) {
+        return film->fault.error;
+    }
+    if (may_write(film, path, dry_run, denied) != FILM_DONE)
+        return film->fault.error;
     if (dry_run)
         return FILM_DONE;
-    if (denied != 0)
-        return film_stop(film, FILM_SYSTEM, denied);
-    return carry_out(film, &fields);
+    if (!cut.found)
+        return carry_out(film, &fields);
+    return film_take_off(film, cut.end) == FILM_DONE ? film_sync(film) : film->fault.error;
 }
 
 enum film_error film_recover(const char *path, bool dry_run, struct film_report *report) {
