@@ -67,13 +67,11 @@ static bool may_be(const uint8_t *bytes, size_t have, size_t width, uint64_t low
     return low >> missing <= number && number <= high >> missing;
 }
 
-/* Whether so many groups can come of so many frames, and of which frames per sample they do. */
+/* Of which frames per sample so many groups come, no more than there are frames; there need not be any. */
 static bool group_range(uint64_t frames, uint64_t groups, uint64_t *low, uint64_t *high) {
     *low = groups > 0 ? (frames + groups - 1) / groups : 1;
-    *high = UINT32_MAX;
-    if (groups > 1 && (frames - 1) / (groups - 1) < *high)
-        *high = (frames - 1) / (groups - 1);
-    return groups <= frames && (groups > 0 || frames == 0) && *low <= *high;
+    *high = groups > 1 ? film_least((frames - 1) / (groups - 1), UINT32_MAX) : UINT32_MAX;
+    return *low <= *high;
 }
 
 static size_t after(size_t n, size_t at) {
@@ -150,7 +148,8 @@ enum film_error film_find_cut(struct film *film, struct film_cut *cut) {
         return FILM_DONE;
     if (strict_up_to(film, chunks.whole, &number, strict) != FILM_DONE)
         return film->fault.error;
-    if (number != CAF_DONE || strict[CAF_STRICT_OPEN] || !may_follow(film, strict, chunks.whole))
+    /* it is closed: open data go to the end of the file, and are not among the whole chunks */
+    if (number != CAF_DONE || !may_follow(film, strict, chunks.whole))
         return FILM_DONE;
     cut->end = chunks.whole;
     cut->payload = strict[CAF_STRICT_PAYLOAD];

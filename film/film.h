@@ -7,8 +7,8 @@
  *         fprintf(stderr, "film.caf: %s\n", film_words(&film.fault, words, sizeof words));
  *     film_close(&film);
  *
- * Compile film.c, reopen.c, recovery.c, strict.c, disk.c and window.c (or link the libfilm.a that film/build
- * makes of them), and link with libcaf.a and -pthread. For 64-bit Linux.
+ * Compile film.c, reopen.c, recovery.c, overview.c, pairs.c, cut.c, strict.c, disk.c and window.c (or link the
+ * libfilm.a that film/build makes of them), and link with libcaf.a and -pthread. For 64-bit Linux.
  *
  * What is promised. The proved library makes every byte and judges every call; this layer carries its stores
  * to the disk, in their order and nothing else. The file is at every moment exactly as long as the stores
@@ -36,7 +36,7 @@
  * next byte, film_arrived, by film_append, before whole samples are appended again.
  *
  * A call must not be made on a film while another thread makes one on it. Different films are independent of
- * each other. A caller must have 8 KiB of stack left, for film_recover 32. */
+ * each other. A caller must have 8 KiB of stack left, for film_recover and film_add_overview 32. */
 #ifndef FILM_H
 #define FILM_H
 
@@ -138,20 +138,32 @@ enum film_error film_close(struct film *film);
 /* How many data bytes of the film, of all sessions, are in the file. */
 uint64_t film_arrived(const struct film *film);
 
-/* ---- a waveform overview after the data */
+/* ---- a waveform overview after the data
+ *
+ * Either call appends the chunk that caf_append_overview makes of the film, byte for byte. The data are read in blocks,
+ * so that memory stays flat however long the film is: 2 MiB, and four bytes for each channel. They are on the disk
+ * before the first byte of the chunk is, and all of it when the call returns.
+ *
+ * Where the process dies meanwhile, the film may end within the chunk. Then the strict reading refuses it with
+ * CAF_CUT_SHORT, and film_recover takes off what there is of the chunk. Where a call fails it takes that off itself:
+ * the film is again as finish left it. (Not where the last sync fails: the chunk is whole.) */
 
-/* Appends the overview to a finished film, the chunk that caf_append_overview makes, with so many frames per
- * sample. The data are read in blocks, so that memory stays flat however long the film is. When it returns all
- * of the film is on the disk. Refused with the number that caf_append_overview gives: CAF_NO_HEADER, CAF_NOT_CLOSED
- * before film_finish, CAF_TAIL_AFTER_DATA for a second overview, CAF_NO_GROUP for 0 frames, CAF_WRONG_WIDTH. */
+/* Appends an overview to a finished film, of so many frames per sample. FILM_REFUSED with the number that
+ * caf_append_overview gives: CAF_NO_HEADER, CAF_NOT_CLOSED before film_finish, CAF_TAIL_AFTER_DATA for a second one,
+ * CAF_NO_GROUP for 0 frames, CAF_WRONG_WIDTH for other samples than 24-bit integers in whole frames. */
 enum film_error film_append_overview(struct film *film, uint32_t frames_per_sample);
 
-/* Told from time to time how many of the payload's bytes are worked out. */
+/* Is told now and then how many bytes of the payload are worked out. */
 typedef void film_progress(void *self, uint64_t done, uint64_t payload);
 
-/* Appends an overview in place to a closed film on disk that no one has open; every byte before it stays as it was.
- * 0 frames per sample: so many that 2,000 to 4,000 samples come out, one for each frame of a shorter film. `progress`
- * may be NULL. *fault says what it gives back. */
+/* Appends an overview in place to a closed film on the disk that no one has open for writing. Every byte before it
+ * stays as it was, also those of other chunks after the data, which the strict reading allows. Without frames per
+ * sample, 0, it takes the power of two that makes 2,000 to 4,000 overview samples, and 1 for a shorter film. `progress`
+ * may be NULL. *fault says what is given back.
+ *
+ * FILM_REFUSED, and nothing is changed: with the number of the strict reading; CAF_NOT_CLOSED for an open film;
+ * CAF_TAIL_AFTER_DATA where an overview stands anywhere after the data, and for a film without payload that goes on
+ * (see film_recover); CAF_WRONG_WIDTH. */
 enum film_error film_add_overview(const char *path, uint32_t frames_per_sample, film_progress *progress, void *self,
                                   struct film_fault *fault);
 
@@ -189,7 +201,13 @@ struct film_report {
  *
  * A closed film may have chunks after its data; but one without payload that goes on is refused with
  * CAF_TAIL_AFTER_DATA, since a killed writer of another house leaves just that and what follows may be its
- * audio. */
+ * audio. Nothing but the overview of no frames, the 20 bytes that are appended here, may follow it.
+ *
+ * Of a closed film that ends within an overview the bytes of this chunk are taken off: from a first byte `o` to all but
+ * one, behind other chunks too. They have to be bytes that film_append_overview or film_add_overview would write there:
+ * the name, the size, the edit count and the frames per sample, as far as they are there, have to fit the film and
+ * each other (the pairs are not looked at), no other overview stands before it, and the film takes one. After no
+ * payload the name has to be whole, and to follow at once. Nothing else is ever cut off. */
 enum film_error film_recover(const char *path, bool dry_run, struct film_report *report);
 
 #ifdef __cplusplus

@@ -14,7 +14,7 @@ static size_t block_size = 1 << 18;
 #include "holds.h"
 #include "random.h"
 
-enum { ROOM = 1 << 16, START = 88 };
+enum { ROOM = 1 << 22, START = 88 };
 
 /* A film in memory, with its overview by the library, and in the file `film`. */
 struct made {
@@ -233,7 +233,8 @@ static void whole_chunks(void) {
 
 struct watched {
     uint64_t done, payload;
-    off_t shorten;
+    off_t shorten;    /* to so many bytes at once, unless it is 0 */
+    uint64_t lengthen; /* by a byte when so much is done, unless it is 0 */
 };
 
 static void watch(void *self, uint64_t done, uint64_t payload) {
@@ -244,11 +245,17 @@ static void watch(void *self, uint64_t done, uint64_t payload) {
     watched->payload = payload;
     if (watched->shorten > 0)
         HOLDS(truncate("film", watched->shorten) == 0);
+    if (watched->lengthen > 0 && done >= watched->lengthen) {
+        FILE *file = fopen("film", "ab");
+
+        HOLDS(file != NULL && fputc('o', file) == 'o' && fclose(file) == 0);
+        watched->lengthen = 0;
+    }
 }
 
 static void told(void) {
     static struct made made;
-    struct watched watched = {0, 0, 0};
+    struct watched watched = {0, 0, 0, 0};
     struct film_fault fault;
 
     make(&made, 2, 100, 8, false);
@@ -266,12 +273,30 @@ static void shortened(void) {
     size_t i;
 
     for (i = 0; i < sizeof to / sizeof *to; i++) {
-        struct watched watched = {0, 0, to[i]};
+        struct watched watched = {0, 0, to[i], 0};
 
         make(&made, 2, 100, 8, false);
         HOLDS(film_add_overview("film", 8, watch, &watched, &fault) == FILM_CHANGED && fault.error == FILM_CHANGED);
         is_file(made.bytes, (size_t)to[i]);
     }
+}
+
+/* An overview in several pieces; and the same when another program goes on after the first of them, whose byte is
+ * not taken off again. */
+static void lengthened(void) {
+    static struct made made;
+    struct watched watched = {0, 0, 0, 900000};
+    struct film_fault fault;
+    size_t left;
+
+    block_size = 1 << 18;
+    make(&made, 1, 400000, 1, false);
+    added(&made);
+    put_file(made.bytes, made.closed);
+    HOLDS(film_add_overview("film", 1, watch, &watched, &fault) == FILM_CHANGED && watched.lengthen == 0);
+    left = made.closed + FILM_PIECE;
+    made.bytes[left] = 'o';
+    is_file(made.bytes, left + 1);
 }
 
 int main(void) {
@@ -281,6 +306,7 @@ int main(void) {
     whole_chunks();
     told();
     shortened();
+    lengthened();
     printf("overview_blocks: %lu facts hold\n", checks);
     return 0;
 }
