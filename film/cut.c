@@ -15,11 +15,9 @@ struct headers {
 
 /* The chunk header at `at`, which the file has; NULL where it cannot be read. */
 static const uint8_t *header_at(struct headers *headers, uint64_t at) {
-    const uint64_t left = headers->film->length - at;
-
     if (at < headers->at || at + CHUNK_HEADER > headers->at + headers->count) {
         headers->at = at;
-        headers->count = film_least(left, BLOCK);
+        headers->count = film_least(headers->film->length - at, BLOCK);
         if (film_load(headers->film, at, headers->bytes, headers->count) != FILM_DONE)
             return NULL;
     }
@@ -97,8 +95,7 @@ static bool begins_overview(const uint8_t *bytes, size_t n, const struct film_tr
 
 enum film_error film_begins_overview(struct film *film, const uint64_t strict[CAF_STRICT_PLACES], uint64_t at,
                                      bool *does) {
-    const uint64_t left = film->length - at;
-    const size_t n = film_least(left, FILM_OVERVIEW_HEAD);
+    const size_t n = film_least(film->length - at, FILM_OVERVIEW_HEAD);
     uint8_t bytes[FILM_OVERVIEW_HEAD], edits[FILM_FIELD] = {0};
     struct film_track track;
     enum film_error error = film_adopt(film, strict);

@@ -73,22 +73,17 @@ static enum film_error carry(struct appended *to) {
     return film_store(to->film, to->film->length, to->bytes, n);
 }
 
-static enum film_error hold(struct appended *to, uint64_t number, int width) {
-    if (to->held + (size_t)width > FILM_PIECE && carry(to) != FILM_DONE)
-        return to->film->fault.error;
-    film_put_big(to->bytes + to->held, number, width);
-    to->held += (size_t)width;
-    return FILM_DONE;
-}
-
 static bool hold_pairs(void *self, const int16_t *pairs, size_t count) {
     struct appended *to = self;
     const uint64_t frame = FILM_SAMPLE * (uint64_t)to->channels;
     size_t i;
 
-    for (i = 0; i < count; i++)
-        if (hold(to, (uint16_t)pairs[i], sizeof *pairs) != FILM_DONE)
+    for (i = 0; i < count; i++) {
+        if (to->held + sizeof *pairs > FILM_PIECE && carry(to) != FILM_DONE)
             return false;
+        film_put_big(to->bytes + to->held, (uint16_t)pairs[i], sizeof *pairs);
+        to->held += sizeof *pairs;
+    }
     to->shown = film_least(to->shown + count / 2 / to->channels * to->group, to->frames);
     if (to->progress != NULL)
         to->progress(to->self, to->shown * frame, to->frames * frame);
