@@ -28,8 +28,9 @@ enum { BODY_HEAD = 8, EDIT_COUNT = 4 };
  * one with pairs, which are read later, in blocks. The head alone is a body too, and tells the rest. */
 static void look_at_overview(const uint8_t *file, uint32_t channels, struct found *found) {
     const uint8_t *body = file + found->place[CAF_OVERVIEW_START];
+    const size_t size = found->place[CAF_OVERVIEW_SIZE];
 
-    found->shows = caf_read_overview(body, found->place[CAF_OVERVIEW_SIZE], channels, NULL, 0, found->picture, CAF_PICTURE_PLACES);
+    found->shows = caf_read_overview(body, size, channels, NULL, 0, found->picture, CAF_PICTURE_PLACES);
     if (found->shows == CAF_NO_ROOM)
         found->shows = caf_read_overview(body, BODY_HEAD, channels, NULL, 0, found->picture, CAF_PICTURE_PLACES);
 }
@@ -110,14 +111,15 @@ static bool take_stored(struct overview *overview, const struct found *found, ch
 
 static bool take_samples(struct overview *overview, const struct found *found, char why[WHY]) {
     const uint64_t frames = found->strict[CAF_STRICT_FRAMES];
+    uint32_t *per_sample = &overview->frames_per_sample;
     struct film_fault fault;
 
-    if (film_usual_overview(overview->fd, found->strict, &overview->track, &overview->frames_per_sample, &fault) != FILM_DONE) {
+    if (film_usual_overview(overview->fd, found->strict, &overview->track, per_sample, &fault) != FILM_DONE) {
         film_words(&fault, why, WHY);
         return false;
     }
     overview->edits = overview->data_edits;
-    overview->groups = frames / overview->frames_per_sample + (frames % overview->frames_per_sample > 0);
+    overview->groups = frames / *per_sample + (frames % *per_sample > 0);
     return true;
 }
 

@@ -94,7 +94,8 @@ static int draw(const struct options *options, struct overview *overview, const 
 static int print(const struct options *options, struct overview *overview, const char *name) {
     char why[WHY];
 
-    if (overview_find(overview, name, why) && overview_ready(overview, why) && (options->json ? print_json : print_text)(overview, why))
+    if (overview_find(overview, name, why) && overview_ready(overview, why) &&
+        (options->json ? print_json : print_text)(overview, why))
         return 0;
     /* where the output could not be written there is no more to say here */
     return why[0] ? complain(1, name, why) : 2;

@@ -44,8 +44,8 @@ bool overview_ready(struct overview *overview, char why[WHY]);
 enum { CHANNEL_NAME = 40 };
 const char *channel_name(const struct overview *overview, uint32_t channel, char name[CHANNEL_NAME]);
 
-/* Hands on all pairs of one that is ready, in their order: each time those of one or more whole groups (stream.c). False: `why` says what
- * went wrong, or is empty where `take` wanted no more. */
+/* Hands on all pairs of one that is ready, in their order: each time those of one or more whole groups (stream.c).
+ * False: `why` says what went wrong, or is empty where `take` wanted no more. */
 bool overview_stream(const struct overview *overview, film_take_pairs *take, void *self, char why[WHY]);
 
 /* What it is, in a few words: "overview samples 3000, frames per sample 16, channels 6, rate 48000" (text.c). */

@@ -80,8 +80,8 @@ static void put_axis(FILE *out, const struct sheet *sheet) {
             TOP + sheet->bands);
     for (i = 0; i < marks; i++) {
         x = axis_mark(&axis, i, COLUMNS, text);
-        fprintf(out, "<path stroke=\"#9fb3c3\" d=\"M%.1f %dv%d\"/><text x=\"%.1f\" y=\"20\" text-anchor=\"middle\">%s</text>\n", x,
-                -sheet->bands, sheet->bands + 6, x, text);
+        fprintf(out, "<path stroke=\"#9fb3c3\" d=\"M%.1f %dv%d\"/>", x, -sheet->bands, sheet->bands + 6);
+        fprintf(out, "<text x=\"%.1f\" y=\"20\" text-anchor=\"middle\">%s</text>\n", x, text);
     }
     fputs("</g>\n", out);
 }
@@ -90,7 +90,8 @@ static void put_axis(FILE *out, const struct sheet *sheet) {
 static void put_title(FILE *out, const struct overview *overview) {
     fputs("<title>", out);
     text_xml(out, overview->name);
-    fprintf(out, "</title>\n<rect width=\"100%%\" height=\"100%%\" fill=\"#fff\"/>\n<text x=\"%d\" y=\"24\" font-size=\"15\" font-weight=\"bold\">", EDGE);
+    fputs("</title>\n<rect width=\"100%\" height=\"100%\" fill=\"#fff\"/>\n", out);
+    fprintf(out, "<text x=\"%d\" y=\"24\" font-size=\"15\" font-weight=\"bold\">", EDGE);
     text_xml(out, overview->name);
     fprintf(out, "</text>\n<text x=\"%d\" y=\"41\" fill=\"#5b6b78\">", EDGE);
     describe(out, overview);
@@ -113,7 +114,8 @@ static void put_sheet(FILE *out, const struct sheet *sheet) {
     int width = sheet->left + COLUMNS + RIGHT, height = TOP + sheet->bands + BOTTOM;
     uint32_t i;
 
-    fprintf(out, "<svg xmlns=\"http://www.w3.org/2000/svg\" width=\"%d\" height=\"%d\" viewBox=\"0 0 %d %d\" ", width, height, width, height);
+    fprintf(out, "<svg xmlns=\"http://www.w3.org/2000/svg\" width=\"%d\" height=\"%d\" ", width, height);
+    fprintf(out, "viewBox=\"0 0 %d %d\" ", width, height);
     fputs("font-family=\"sans-serif\" font-size=\"12\" fill=\"#22303c\">\n", out);
     put_title(out, sheet->overview);
     for (i = 0; i < sheet->overview->channels; i++)

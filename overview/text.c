@@ -57,10 +57,11 @@ void describe(FILE *out, const struct overview *overview) {
     char rate[32];
 
     rate_digits(overview->rate, rate, sizeof rate);
-    fprintf(out, "overview samples %" PRIu64 ", frames per sample %" PRIu32 ", channels %" PRIu32 ", rate %s", overview->groups,
-            overview->frames_per_sample, overview->channels, rate);
+    fprintf(out, "overview samples %" PRIu64 ", frames per sample %" PRIu32 ", channels %" PRIu32 ", rate %s",
+            overview->groups, overview->frames_per_sample, overview->channels, rate);
     if (overview->edits != overview->data_edits)
-        fprintf(out, ", made at edit %" PRIu32 " of the data, which are at %" PRIu32 " now", overview->edits, overview->data_edits);
+        fprintf(out, ", made at edit %" PRIu32 " of the data, which are at %" PRIu32 " now", overview->edits,
+                overview->data_edits);
 }
 
 static void print_many(const char *character, int count) {
@@ -74,16 +75,14 @@ static int level_of(int16_t sample, int rows) {
 }
 
 static void print_row(const struct columns *columns, uint32_t channel, int row, int rows, const struct characters *with) {
+    const int upper = 2 * row, lower = 2 * row + 1;
     size_t column;
-    int16_t least, greatest;
     int top, bottom;
 
     for (column = 0; column < columns->width; column++) {
-        least = column_least(columns, column, channel);
-        greatest = column_greatest(columns, column, channel);
-        top = level_of(greatest, rows);
-        bottom = level_of(least, rows);
-        fputs(with->halves[(top <= 2 * row && 2 * row <= bottom) + 2 * (top <= 2 * row + 1 && 2 * row + 1 <= bottom)], stdout);
+        top = level_of(column_greatest(columns, column, channel), rows);
+        bottom = level_of(column_least(columns, column, channel), rows);
+        fputs(with->halves[(top <= upper && upper <= bottom) + 2 * (top <= lower && lower <= bottom)], stdout);
     }
     putchar('\n');
 }
