@@ -15,8 +15,8 @@
  * made: data are appended, never overwritten, and no room is made in advance. So whatever ends the process,
  * at any moment and in any session, film_open or film_recover finds every byte whose append had returned, and
  * of an append that was under way the first so many bytes. Memory stays flat, some 2 MiB, however long the
- * film; of address space it takes as much as the film is long, so that a limit on that (ulimit -v) is one on
- * films. To resume a film takes the pages of its chunk headers besides, at most 64 MiB (else ENOMEM).
+ * film and however many chunks it has; of address space it takes as much as the film is long, so that a limit
+ * on that (ulimit -v) is one on films.
  *
  * What is assumed. If the process dies, nothing: what a write gave to the system stays. If the machine dies:
  * that a file does not become longer before the bytes that make it longer are on the disk, and that the eight

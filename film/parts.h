@@ -25,6 +25,16 @@ static inline uint64_t film_big(const uint8_t *field) {
     return number;
 }
 
+/* Puts a number as `width` bytes, from the most significant one. */
+static inline void film_put_big(uint8_t *at, uint64_t number, int width) {
+    for (; width > 0; number >>= 8)
+        at[--width] = (uint8_t)number;
+}
+
+static inline uint64_t film_least(uint64_t a, uint64_t b) {
+    return a < b ? a : b;
+}
+
 /* ---- window.c: address space for a film. All but film_window_close give 0, or -1 and an errno. */
 
 /* Address space for a film of so many bytes. What was lent before is given back if it has to be found
@@ -38,8 +48,6 @@ int film_window_add(struct film_window *window, uint64_t at, uint64_t n);
 /* Gives back every page. */
 int film_window_clear(struct film_window *window);
 void film_window_close(struct film_window *window);
-uint64_t film_page_before(uint64_t at);
-uint64_t film_page_after(uint64_t at);
 
 /* ---- disk.c: the file. */
 
@@ -70,7 +78,7 @@ enum film_error film_unchanged(struct film *film);
 /* ---- reopen.c */
 
 /* Resumes the film whose file is open, in memory: makes its record, and leaves the stores of the resume in
- * the window, whose pages hold the bytes of the file that it looked at. Writes nothing to the disk. */
+ * the window. Writes nothing to the disk. */
 enum film_error film_examine(struct film *film);
 
 /* ---- strict.c */

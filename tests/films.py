@@ -36,6 +36,16 @@ def noise(length):
     return random.Random(SEED).randbytes(length)
 
 
+def spread(path):
+    """An open film of six bytes with 10,000 chunks before its data, each on pages of its own: 40 MiB of them, and nearly all of the file is holes."""
+    with path.open('wb') as file:
+        file.write(caf.header() + caf.desc())
+        for _ in range(10000):
+            file.write(caf.chunk(b'free', b'', 2 ** 16))
+            file.seek(2 ** 16, 1)
+        file.write(caf.data(bytes(6), -1))
+
+
 def build():
     """Builds the layer, and gives the path of recover."""
     made = subprocess.run([TOP / 'film' / 'build'], check=True, stdout=subprocess.PIPE, text=True).stdout.split()
