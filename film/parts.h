@@ -51,8 +51,9 @@ void film_window_close(struct film_window *window);
 
 /* ---- disk.c: the file. */
 
-/* Opens a regular file and locks it; *fd is above 2. Never waits. */
-enum film_error film_disk_open(const char *path, int flags, int *fd, struct film_fault *fault);
+/* Opens a regular file that nobody writes, as far as can be told, and locks it for a film that is not open;
+ * its fd is above 2. Never waits. */
+enum film_error film_disk_open(struct film *film, const char *path, int flags);
 /* How many of the n bytes were written at `at`, or read from there: fewer where that fails, with its errno,
  * and where a read comes to the end of the file, with errno 0. */
 size_t film_disk_store(int fd, const uint8_t *bytes, size_t n, uint64_t at);
@@ -60,6 +61,20 @@ size_t film_disk_load(int fd, uint8_t *bytes, size_t n, uint64_t at);
 /* 0, or -1 and an errno. A file that was removed, and has no name any more, has no length: ENOENT. */
 int film_disk_length(int fd, uint64_t *length);
 int film_disk_sync(int fd);
+
+/* ---- others.c: others who have the file. */
+
+/* What the system tells of programs that have a file open for writing. */
+enum film_use { FILM_UNUSED, FILM_USED, FILM_UNTOLD };
+
+enum film_use film_use_of(int fd);
+/* Locks the file for a writer, or sees whether one has locked it: 0, or -1 and an errno, EWOULDBLOCK where one
+ * has. Never waits. */
+int film_lock(int fd, bool to_write);
+/* Gives the lock back, for children of this process too. */
+void film_unlock(int fd);
+/* Whether the file was last modified so many seconds ago, or longer. 0, or -1 and an errno. */
+int film_is_quiet(int fd, uint32_t seconds, bool *quiet);
 
 /* ---- film.c */
 
@@ -74,6 +89,8 @@ enum film_error film_load(struct film *film, uint64_t at, uint8_t *bytes, size_t
 /* Whether the file is as long as what was written. Only then is the size true that a finish puts into it;
  * else the film is stopped. */
 enum film_error film_unchanged(struct film *film);
+/* Whether the file was left alone for so many seconds; else the film is stopped. */
+enum film_error film_quiet(struct film *film, uint32_t seconds);
 
 /* ---- reopen.c */
 

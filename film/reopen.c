@@ -14,6 +14,7 @@
 #include <errno.h>
 #include <fcntl.h>
 #include <string.h>
+#include <time.h>
 
 enum { FILE_HEADER = 8, CHUNK_HEADER = 12, DESCRIPTION = 32, EDIT_COUNT = 4 };
 
@@ -22,6 +23,9 @@ enum { LOOKED_AT = CHUNK_HEADER + DESCRIPTION };
 
 /* Chunks that stand close together are read so many bytes at a time. */
 enum { BLOCK = 2048 };
+
+/* A film that someone else has is tried so often again, every hundredth of a second. */
+enum { TRIES = 100 };
 
 /* The walk over the chunks, and what it keeps of the file: each byte is read once, so that all that is lent
  * fits together even where someone changes the file meanwhile. */
@@ -149,14 +153,28 @@ enum film_error film_examine(struct film *film) {
 static enum film_error put_back(struct film *film) {
     uint64_t at = film->record[CAF_RECORD_SIZE_POSITION];
 
-    if (film_store(film, at, film->window.base + at, FILM_FIELD) != FILM_DONE || film_sync(film) != FILM_DONE)
+    if (film_unchanged(film) != FILM_DONE ||
+        film_store(film, at, film->window.base + at, FILM_FIELD) != FILM_DONE ||
+        film_sync(film) != FILM_DONE)
         return film->fault.error;
     return film_window_clear(&film->window) < 0 ? film_stop(film, FILM_SYSTEM, errno) : FILM_DONE;
 }
 
+/* Whoever recovers a film, or looks whether it is written, has it for a moment: so a writer waits a while. */
+static enum film_error open_patiently(struct film *film, const char *path) {
+    const struct timespec pause = {0, 10 * 1000 * 1000};
+    int tries = 0;
+
+    for (;;) {
+        film_begin(film);
+        if (film_disk_open(film, path, O_RDWR) != FILM_BUSY || tries++ == TRIES)
+            return film->fault.error;
+        nanosleep(&pause, NULL);
+    }
+}
+
 enum film_error film_open(struct film *film, const char *path) {
-    film_begin(film);
-    if (film_disk_open(path, O_RDWR, &film->fd, &film->fault) != FILM_DONE)
+    if (open_patiently(film, path) != FILM_DONE)
         return film->fault.error;
     if (film_disk_length(film->fd, &film->length) < 0)
         return film_stop(film, FILM_SYSTEM, errno);

@@ -1,6 +1,8 @@
 """Films for tests/film and tests/recover: the programs, and what a film must be, made from the layout of document 01 and not by the library."""
+import fcntl
 import pathlib
 import random
+import signal
 import struct
 import subprocess
 
@@ -44,6 +46,17 @@ def spread(path):
             file.write(caf.chunk(b'free', b'', 2 ** 16))
             file.seek(2 ** 16, 1)
         file.write(caf.data(bytes(6), -1))
+
+
+def has_leases(path):
+    """Whether the system tells of programs that have this file open for writing, to its owner."""
+    with path.open('rb') as file:
+        try:
+            fcntl.fcntl(file, fcntl.F_SETSIG, signal.SIGURG)
+            fcntl.fcntl(file, fcntl.F_SETLEASE, fcntl.F_RDLCK)
+        except OSError:
+            return False
+    return True
 
 
 def build():
