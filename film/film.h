@@ -7,8 +7,8 @@
  *         fprintf(stderr, "film.caf: %s\n", film_words(&film.fault, words, sizeof words));
  *     film_close(&film);
  *
- * Compile film.c, reopen.c, recovery.c, strict.c, disk.c, others.c and window.c (or link the libfilm.a that film/build
- * makes of them), and link with libcaf.a and -pthread. For 64-bit Linux.
+ * Compile film.c, reopen.c, recovery.c, strict.c, disk.c, others.c and window.c (or link the libfilm.a that
+ * film/build makes of them), and link with libcaf.a and -pthread. For 64-bit Linux.
  *
  * What is promised. The proved library makes every byte and judges every call; this layer carries its stores
  * to the disk, in their order and nothing else. The file is at every moment exactly as long as the stores
@@ -28,13 +28,13 @@
  * the machine. That the name of a new film does too is for the caller to see to, by an fsync of its folder.
  *
  * Others. A film open for writing is locked (flock), until film_close by the process that opened it or the end
- * of all that have it open; a child may go on with a film, or film_close its own copy. The lock binds film_open
- * and film_recover. Of other programs these two ask the system whether one has the file open for writing, by a
- * lease that they give back at once, and then say FILM_BUSY: a file that is still uploaded or recorded must not
- * be closed under its writer's hands. The system does not tell where the file is another user's (and this one
- * has no CAP_LEASE), where its file system has no leases or is a network disk (a lease may be had there too, but
- * that none is given says nothing), and where a child of a process that wrote and closed the film still has it
- * open. There film_recover leaves a film alone that was modified within the last FILM_QUIET seconds
+ * of all that have it open. A child that was forked meanwhile may film_close its own copy, or go on with the film
+ * if its parent does not film_close it. The lock binds film_open and film_recover. Of other programs these two
+ * ask the system whether one has the file open for writing, by a lease that they give back at once, and then say
+ * FILM_BUSY: a file that is still uploaded or recorded must not be closed under its writer's hands. The system
+ * does not tell where the file is another user's (unless this one has CAP_LEASE), where its file system has no
+ * leases or is a network disk that gives none (NFS, SMB) or knows this machine alone (FUSE), and where a child
+ * of a process that wrote and closed the film still has it open. There film_recover leaves a film alone that was modified within the last FILM_QUIET seconds
  * (FILM_RECENT); film_open goes on, as its caller knows whose film it is. Nobody is asked between the answer and
  * the end of a session: a program that begins to write later is noticed only by what it does to the file. For
  * that every append and finish looks, just before it writes, whether the file is as long as what was written

@@ -30,20 +30,28 @@ int film_lock(int fd, bool to_write) {
     return done == 0 && !to_write ? lock(fd, LOCK_UN) : done;
 }
 
-/* Where the server answers, and gives no lease for its own reasons. */
-static bool is_remote(int fd) {
+/* What a file system's answer to a wish for a lease is worth. */
+enum worth {
+    FULL,
+    A_NO_SAYS_NOTHING, /* a server gives none for reasons of its own */
+    A_YES_SAYS_NOTHING /* other machines may write, and are not asked */
+};
+
+static enum worth worth_of(int fd) {
     struct statfs about;
 
     if (fstatfs(fd, &about) < 0)
-        return true;
+        return A_NO_SAYS_NOTHING;
     switch ((uint32_t)about.f_type) {
     case NFS_SUPER_MAGIC:
     case SMB_SUPER_MAGIC:
     case CIFS_SUPER_MAGIC:
     case SMB2_SUPER_MAGIC:
-        return true;
+        return A_NO_SAYS_NOTHING;
+    case FUSE_SUPER_MAGIC:
+        return A_YES_SAYS_NOTHING;
     default:
-        return false;
+        return FULL;
     }
 }
 
@@ -66,11 +74,11 @@ static bool is_marked(int fd) {
 }
 
 /* A child that was forked meanwhile has the file open too, with the same lock. So the lock is given back by
- * name, and the mark says that such a child is no writer. */
+ * name, and the mark says that such a child is no writer. (A server would take the mark for a lock.) */
 void film_unlock(int fd) {
     struct flock set = mark(F_RDLCK);
 
-    if ((fcntl(fd, F_GETFL) & O_ACCMODE) != O_RDONLY && !is_remote(fd))
+    if ((fcntl(fd, F_GETFL) & O_ACCMODE) != O_RDONLY && worth_of(fd) != A_NO_SAYS_NOTHING)
         fcntl(fd, F_OFD_SETLK, &set);
     lock(fd, LOCK_UN);
 }
@@ -79,12 +87,14 @@ void film_unlock(int fd) {
  * privileged user, on a file system that has leases. It is given back at once; should someone want to write in
  * between, SIGURG comes, which is ignored unless the caller waits for it. */
 enum film_use film_use_of(int fd) {
+    enum worth worth = worth_of(fd);
+
     fcntl(fd, F_SETSIG, SIGURG);
     if (fcntl(fd, F_SETLEASE, F_RDLCK) == 0) {
         fcntl(fd, F_SETLEASE, F_UNLCK);
-        return FILM_UNUSED;
+        return worth == A_YES_SAYS_NOTHING ? FILM_UNTOLD : FILM_UNUSED;
     }
-    return errno == EAGAIN && !is_remote(fd) && !is_marked(fd) ? FILM_USED : FILM_UNTOLD;
+    return errno == EAGAIN && worth != A_NO_SAYS_NOTHING && !is_marked(fd) ? FILM_USED : FILM_UNTOLD;
 }
 
 int film_is_quiet(int fd, uint32_t seconds, bool *quiet) {
