@@ -196,7 +196,7 @@ static enum film_error add(struct film *film, const char *path, uint32_t group, 
     uint32_t number;
 
     film_begin(film);
-    if (film_disk_open(path, O_RDWR, &film->fd, &film->fault) != FILM_DONE)
+    if (film_disk_open(film, path, O_RDWR) != FILM_DONE)
         return film->fault.error;
     if (film_disk_length(film->fd, &film->length) < 0)
         return film_stop(film, FILM_SYSTEM, errno);
@@ -211,7 +211,9 @@ static enum film_error add(struct film *film, const char *path, uint32_t group, 
     number = film_overview_number(film, group);
     if (number != CAF_DONE)
         return film_refused(film, number);
-    return film_sync(film) == FILM_DONE ? append(film, group, progress, self) : film->fault.error;
+    if (film_left_alone(film) != FILM_DONE || film_sync(film) != FILM_DONE)
+        return film->fault.error;
+    return append(film, group, progress, self);
 }
 
 enum film_error film_add_overview(const char *path, uint32_t frames_per_sample, film_progress *progress, void *self,
