@@ -178,17 +178,46 @@ static uint32_t usual_group(uint64_t frames) {
     return group;
 }
 
-/* What refuses an overview beside the library: chunks after the data, which its record knows nothing of. */
-static enum film_error look_for_others(struct film *film, const uint64_t strict[CAF_STRICT_PLACES]) {
-    struct film_chunks chunks;
+/* The film's record, and its group where that is 0; or the number that refuses it. */
+static enum film_error settle(struct film *film, const uint64_t strict[CAF_STRICT_PLACES], uint32_t *group) {
+    uint32_t number;
 
     if (strict[CAF_STRICT_OPEN])
         return film_refused(film, CAF_NOT_CLOSED);
+    if (film_adopt(film, strict) != FILM_DONE)
+        return film->fault.error;
+    if (*group == 0)
+        *group = usual_group(strict[CAF_STRICT_FRAMES]);
+    number = film_overview_number(film, *group);
+    return number == CAF_DONE ? FILM_DONE : film_refused(film, number);
+}
+
+enum film_error film_usual_overview(int fd, const uint64_t strict[CAF_STRICT_PLACES], struct film_track *track,
+                                    uint32_t *group, struct film_fault *fault) {
+    struct film film;
+    enum film_error error;
+
+    film_begin(&film);
+    film.fd = fd;
+    *group = 0;
+    error = film_disk_length(fd, &film.length) < 0 ? film_stop(&film, FILM_SYSTEM, errno) : settle(&film, strict, group);
+    *track = film_track_of(&film);
+    *fault = film.fault;
+    film_window_close(&film.window);
+    return error;
+}
+
+/* What refuses an overview beside the library: chunks after the data, which its record knows nothing of. Open data
+ * have none. */
+static enum film_error look_for_others(struct film *film, const uint64_t strict[CAF_STRICT_PLACES]) {
+    struct film_chunks chunks;
+
     if (film_walk(film, &chunks) != FILM_DONE)
         return film->fault.error;
     if (chunks.has_overview || (strict[CAF_STRICT_PAYLOAD] == 0 && film->length > strict[CAF_STRICT_DATA_START]))
         return film_refused(film, CAF_TAIL_AFTER_DATA);
-    return FILM_DONE;
+    /* and those who may still write the film, where the system does not tell */
+    return film_left_alone(film);
 }
 
 static enum film_error add(struct film *film, const char *path, uint32_t group, film_progress *progress, void *self) {
@@ -204,16 +233,9 @@ static enum film_error add(struct film *film, const char *path, uint32_t group, 
         return film->fault.error;
     if (number != CAF_DONE)
         return film_refused(film, number);
-    if (look_for_others(film, strict) != FILM_DONE || film_adopt(film, strict) != FILM_DONE)
+    if (look_for_others(film, strict) != FILM_DONE || settle(film, strict, &group) != FILM_DONE)
         return film->fault.error;
-    if (group == 0)
-        group = usual_group(strict[CAF_STRICT_FRAMES]);
-    number = film_overview_number(film, group);
-    if (number != CAF_DONE)
-        return film_refused(film, number);
-    if (film_left_alone(film) != FILM_DONE || film_sync(film) != FILM_DONE)
-        return film->fault.error;
-    return append(film, group, progress, self);
+    return film_sync(film) == FILM_DONE ? append(film, group, progress, self) : film->fault.error;
 }
 
 enum film_error film_add_overview(const char *path, uint32_t frames_per_sample, film_progress *progress, void *self,

@@ -28,6 +28,12 @@ typedef bool film_take_pairs(void *self, const int16_t *pairs, size_t count);
 enum film_error film_pairs(int fd, const struct film_track *track, uint32_t group, film_take_pairs *take, void *self,
                            struct film_fault *fault);
 
+/* The overview that film_add_overview would append to a closed film, of which `strict` is the reading: where its
+ * samples stand, and how many frames per sample it would choose. Gives FILM_REFUSED with the number that it would
+ * have, chunks after the data aside. It only reads. */
+enum film_error film_usual_overview(int fd, const uint64_t strict[CAF_STRICT_PLACES], struct film_track *track,
+                                    uint32_t *group, struct film_fault *fault);
+
 #ifdef __cplusplus
 }
 #endif
