@@ -3,54 +3,6 @@
 
 #include <string.h>
 
-enum { FILE_HEADER = 8, CHUNK_HEADER = 12, BLOCK = 1 << 12 };
-
-/* Chunks may be many and small, so that their headers are read by blocks. */
-struct headers {
-    struct film *film;
-    uint64_t at;
-    size_t count;
-    uint8_t bytes[BLOCK];
-};
-
-/* The chunk header at `at`, which the file has; NULL where it cannot be read. */
-static const uint8_t *header_at(struct headers *headers, uint64_t at) {
-    if (at < headers->at || at + CHUNK_HEADER > headers->at + headers->count) {
-        headers->at = at;
-        headers->count = film_least(headers->film->length - at, BLOCK);
-        if (film_load(headers->film, at, headers->bytes, headers->count) != FILM_DONE)
-            return NULL;
-    }
-    return headers->bytes + (at - headers->at);
-}
-
-/* Sizes are followed here to know where chunks begin. What a film is, is the library's to say. */
-enum film_error film_walk(struct film *film, struct film_chunks *chunks) {
-    struct headers headers;
-    uint64_t at = FILE_HEADER;
-    bool after_data = false;
-
-    headers.film = film;
-    headers.at = headers.count = 0;
-    chunks->has_overview = false;
-    while (at <= film->length && film->length - at >= CHUNK_HEADER) {
-        const uint8_t *header = header_at(&headers, at);
-        uint64_t size;
-
-        if (header == NULL)
-            return film->fault.error;
-        size = film_big(header + 4);
-        if (size > film->length - at - CHUNK_HEADER)
-            break;
-        if (after_data && memcmp(header, "ovvw", 4) == 0)
-            chunks->has_overview = true;
-        after_data = after_data || memcmp(header, "data", 4) == 0;
-        at += CHUNK_HEADER + size;
-    }
-    chunks->whole = at;
-    return FILM_DONE;
-}
-
 /* Whether the first bytes of a number of `width` bytes, of which `have` are there, are those of one from `low` to
  * `high`. */
 static bool may_be(const uint8_t *bytes, size_t have, size_t width, uint64_t low, uint64_t high) {
@@ -84,9 +36,10 @@ static bool begins_overview(const uint8_t *bytes, size_t n, const struct film_tr
     const uint64_t all = film_overview_size(track->channels, frames);
     uint64_t size, low, high;
 
-    if (memcmp(bytes, "ovvw", film_least(n, 4)) != 0 || !may_be(bytes + 4, after(n, 4), 8, frames > 0 ? one : none, all))
+    if (memcmp(bytes, "ovvw", film_least(n, 4)) != 0 ||
+        !may_be(bytes + 4, after(n, 4), FILM_FIELD, frames > 0 ? one : none, all))
         return false;
-    if (n < CHUNK_HEADER)
+    if (n < FILM_CHUNK_HEADER)
         return true;
     size = film_big(bytes + 4) - none;
     return size % (one - none) == 0 && group_range(frames, size / (one - none), &low, &high) &&

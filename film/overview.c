@@ -216,7 +216,8 @@ static enum film_error look_for_others(struct film *film, const uint64_t strict[
         return film->fault.error;
     if (chunks.has_overview || (strict[CAF_STRICT_PAYLOAD] == 0 && film->length > strict[CAF_STRICT_DATA_START]))
         return film_refused(film, CAF_TAIL_AFTER_DATA);
-    return FILM_DONE;
+    /* and those who may still write the film, where the system does not tell */
+    return film_left_alone(film);
 }
 
 static enum film_error add(struct film *film, const char *path, uint32_t group, film_progress *progress, void *self) {
@@ -224,7 +225,7 @@ static enum film_error add(struct film *film, const char *path, uint32_t group, 
     uint32_t number;
 
     film_begin(film);
-    if (film_disk_open(path, O_RDWR, &film->fd, &film->fault) != FILM_DONE)
+    if (film_disk_open(film, path, O_RDWR) != FILM_DONE)
         return film->fault.error;
     if (film_disk_length(film->fd, &film->length) < 0)
         return film_stop(film, FILM_SYSTEM, errno);

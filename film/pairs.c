@@ -17,7 +17,7 @@
 #define FILM_BLOCK (1 << 18)
 #endif
 
-enum { HEAD = 68, CHUNK_HEADER = 12, PAIR = 4 };
+enum { HEAD = 68, PAIR = 4 };
 
 /* `file` has a head, a block of at most `most` samples, and room for an overview that has a pair for each of them;
  * `pairs` are the block's; `group` those of a group that is longer than a block, as far as it was read. */
@@ -51,7 +51,7 @@ static void put_head(uint8_t *head, uint32_t channels, bool little_endian) {
 /* The pairs of the samples in the file's block; gives the number of the call that refused, which none does. */
 static uint32_t overview(struct work *work, const struct part *part, uint32_t group) {
     uint64_t record[CAF_RECORD], chunks, said[CAF_PICTURE_PLACES];
-    const size_t end = HEAD + FILM_SAMPLE * part->channels * part->frames, body = end + CHUNK_HEADER;
+    const size_t end = HEAD + FILM_SAMPLE * part->channels * part->frames, body = end + FILM_CHUNK_HEADER;
     uint32_t number;
 
     put_head(work->file, part->channels, work->track->little_endian);

@@ -14,8 +14,9 @@
  * disk, and prints the payload that was worked out in the place of what arrived.
  *
  * From the environment: FILM_OVERVIEW=n appends an overview of n frames per sample after the finish, or adds it.
- * FILM_STOP_AFTER=n kills the process when n bytes were written to files, in the middle
- * of a write if need be. FILM_SHORT=n lets a write take at most n bytes, and interrupts every third one.
+ * FILM_STOP_AFTER=n kills the process when n bytes were written to files, in the middle of a write if need be.
+ * FILM_SHORT=n lets a write take at most n bytes, and interrupts every third one, and every other opening and
+ * locking of the film. FILM_SHORTEN=n cuts all bytes off the film when n were written.
  * FILM_SLOW=n makes every sync take n microseconds more before it and after it. FILM_BAD_SYNC=n makes the
  * sync of that number fail. FILM_TELL=1 prints every write, with its place and length, and every sync. */
 #define _DEFAULT_SOURCE
@@ -23,10 +24,12 @@
 #include <fcntl.h>
 #include <inttypes.h>
 #include <signal.h>
+#include <stdarg.h>
 #include <stdatomic.h>
 #include <stdio.h>
 #include <stdlib.h>
 #include <string.h>
+#include <sys/file.h>
 #include <sys/mman.h>
 #include <unistd.h>
 
@@ -62,6 +65,10 @@ ssize_t __real_pwrite(int fd, const void *bytes, size_t n, off_t at);
 ssize_t __wrap_pwrite(int fd, const void *bytes, size_t n, off_t at);
 int __real_fdatasync(int fd);
 int __wrap_fdatasync(int fd);
+int __real_open(const char *path, int flags, ...);
+int __wrap_open(const char *path, int flags, ...);
+int __real_flock(int fd, int how);
+int __wrap_flock(int fd, int how);
 
 ssize_t __wrap_pwrite(int fd, const void *bytes, size_t n, off_t at) {
     static uint64_t written, calls;
@@ -84,7 +91,33 @@ ssize_t __wrap_pwrite(int fd, const void *bytes, size_t n, off_t at) {
         written += (uint64_t)wrote;
     if (written == stop_after)
         kill(getpid(), SIGKILL);
+    if (written >= from_environment("FILM_SHORTEN", UINT64_MAX) && ftruncate(fd, 0) < 0)
+        return -1;
     return wrote;
+}
+
+static bool is_interrupted(void) {
+    static uint64_t calls;
+
+    if (from_environment("FILM_SHORT", 0) == 0 || ++calls % 2 == 0)
+        return false;
+    errno = EINTR;
+    return true;
+}
+
+int __wrap_open(const char *path, int flags, ...) {
+    va_list more;
+    mode_t mode;
+
+    va_start(more, flags);
+    mode = flags & O_CREAT ? va_arg(more, mode_t) : 0;
+    va_end(more);
+    /* the layer's own calls have this flag */
+    return flags & O_NONBLOCK && is_interrupted() ? -1 : __real_open(path, flags, mode);
+}
+
+int __wrap_flock(int fd, int how) {
+    return is_interrupted() ? -1 : __real_flock(fd, how);
 }
 
 int __wrap_fdatasync(int fd) {
