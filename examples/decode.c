@@ -9,13 +9,20 @@
 
 enum { CHANNELS = 6, RATE = 48000, FRAMES = 1024 };
 
-/* Stands for a decoder: one second of a rising tone in each channel. Gives the frames it made, 0 at the
- * end. */
+/* Up to 0x8000 and down again, so many times a second. */
+static int32_t tooth(size_t frame, size_t times) {
+    int32_t place = (int32_t)(frame * times * 0x10000 / RATE % 0x10000);
+
+    return place < 0x8000 ? place : 0x10000 - place;
+}
+
+/* Stands for a decoder: one second of a tone that swells once in the first channel, twice in the second..
+ * Gives the frames it made, 0 at the end. */
 static size_t decode(int32_t *samples, size_t *at) {
     size_t i, count = RATE - *at < FRAMES ? RATE - *at : FRAMES;
 
     for (i = 0; i < count * CHANNELS; i++)
-        samples[i] = (int32_t)((*at + i / CHANNELS) * (i % CHANNELS + 1) * 64 % 0x1000000) - 0x800000;
+        samples[i] = (tooth(*at + i / CHANNELS, 880) - 0x4000) * tooth(*at + i / CHANNELS, i % CHANNELS + 1) / 65;
     *at += count;
     return count;
 }

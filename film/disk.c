@@ -5,7 +5,6 @@
 #include <errno.h>
 #include <fcntl.h>
 #include <signal.h>
-#include <sys/file.h>
 #include <sys/stat.h>
 #include <time.h>
 #include <unistd.h>
@@ -37,57 +36,60 @@ static enum film_error regular(int failed, const struct stat *about, struct film
     return S_ISREG(about->st_mode) ? FILM_DONE : fault_of(fault, FILM_NOT_A_FILE, 0);
 }
 
-/* Whoever only reads shares the lock with others that do: a lock of one's own is not given for such a file
- * everywhere. */
-static enum film_error lock(int fd, int flags, struct film_fault *fault) {
-    int kind = (flags & O_ACCMODE) == O_RDONLY ? LOCK_SH : LOCK_EX;
-    struct stat about;
+/* Opens a file, whatever signals come meanwhile. O_NONBLOCK, so that no FIFO is waited for, nor a lease. */
+static int open_file(const char *path, int flags) {
+    int fd;
 
-    if (regular(fstat(fd, &about), &about, fault) != FILM_DONE)
-        return fault->error;
-    if (flock(fd, kind | LOCK_NB) == 0)
-        return FILM_DONE;
-    if (errno == EWOULDBLOCK)
-        return fault_of(fault, FILM_BUSY, 0);
-    return fault_of(fault, FILM_SYSTEM, errno);
+    do
+        fd = open(path, flags | O_CLOEXEC | O_NONBLOCK | O_NOCTTY, 0666);
+    while (fd < 0 && errno == EINTR);
+    return above_the_standard_streams(fd);
 }
 
-/* Other programs take no lock. But a lease for reading is given only where nobody has the file open for
- * writing; where none can be had, since the file is another user's or its file system has none, nothing is
- * known. It is given back at once; should someone want to write in between, SIGURG comes, which is ignored
- * unless the caller waits for it. */
-static bool is_written(const char *path) {
-    int fd = open(path, O_RDONLY | O_CLOEXEC | O_NONBLOCK | O_NOCTTY);
-    bool written;
-
-    if (fd < 0)
-        return false;
-    fcntl(fd, F_SETSIG, SIGURG);
-    written = fcntl(fd, F_SETLEASE, F_RDLCK) < 0 && errno == EAGAIN;
-    if (!written)
-        fcntl(fd, F_SETLEASE, F_UNLCK);
-    close(fd);
-    return written;
+/* Why a file could not be opened or locked: someone else has it, or the system says no. */
+static enum film_error denied(struct film_fault *fault) {
+    return errno == EWOULDBLOCK ? fault_of(fault, FILM_BUSY, 0) : fault_of(fault, FILM_SYSTEM, errno);
 }
 
-enum film_error film_disk_open(const char *path, int flags, int *fd, struct film_fault *fault) {
+/* Asks whether a program has the file open for writing, before this one has. */
+static enum film_error look_for_writers(struct film *film, const char *path) {
     struct stat about;
-    int got;
+    enum film_use use = FILM_UNTOLD;
+    int fd;
 
     /* what is no file is not even opened: that would let the writer of a FIFO go on, or rewind a tape */
-    if (!(flags & O_CREAT) && regular(stat(path, &about), &about, fault) != FILM_DONE)
-        return fault->error;
-    if (!(flags & O_CREAT) && is_written(path))
-        return fault_of(fault, FILM_BUSY, 0);
-    /* the name may stand for something else by now: O_NONBLOCK, so that no FIFO is waited for */
-    got = above_the_standard_streams(open(path, flags | O_CLOEXEC | O_NONBLOCK | O_NOCTTY, 0666));
-    if (got < 0)
-        return fault_of(fault, FILM_SYSTEM, errno);
-    if (lock(got, flags, fault) != FILM_DONE) {
-        close(got);
-        return fault->error;
+    if (regular(stat(path, &about), &about, &film->fault) != FILM_DONE)
+        return film->fault.error;
+    fd = open_file(path, O_RDONLY);
+    if (fd < 0 && errno == EWOULDBLOCK)
+        return denied(&film->fault);
+    if (fd >= 0) {
+        use = film_use_of(fd);
+        close(fd);
     }
-    *fd = got;
+    film->untold = use == FILM_UNTOLD;
+    return use == FILM_USED ? fault_of(&film->fault, FILM_BUSY, 0) : FILM_DONE;
+}
+
+enum film_error film_disk_open(struct film *film, const char *path, int flags) {
+    struct stat about;
+    int fd;
+
+    if (!(flags & O_CREAT) && look_for_writers(film, path) != FILM_DONE)
+        return film->fault.error;
+    fd = open_file(path, flags);
+    if (fd < 0)
+        return denied(&film->fault);
+    /* the name may stand for something else by now */
+    if (regular(fstat(fd, &about), &about, &film->fault) == FILM_DONE &&
+        film_lock(fd, (flags & O_ACCMODE) != O_RDONLY) < 0)
+        denied(&film->fault);
+    if (film->fault.error != FILM_DONE) {
+        close(fd);
+        return film->fault.error;
+    }
+    film->fd = fd;
+    film->process = getpid();
     return FILM_DONE;
 }
 

@@ -6,7 +6,6 @@
 #include <fcntl.h>
 #include <stdio.h>
 #include <string.h>
-#include <sys/file.h>
 #include <unistd.h>
 
 #include "caf_names.h"
@@ -43,7 +42,7 @@ void film_begin(struct film *film) {
 
 enum film_error film_create(struct film *film, const char *path) {
     film_begin(film);
-    return film_disk_open(path, O_RDWR | O_CREAT | O_EXCL, &film->fd, &film->fault);
+    return film_disk_open(film, path, O_RDWR | O_CREAT | O_EXCL);
 }
 
 enum film_error film_set_format(struct film *film, double rate, uint32_t channels, uint32_t bits,
@@ -97,6 +96,23 @@ enum film_error film_sync(struct film *film) {
     return film_disk_sync(film->fd) < 0 ? film_stop(film, FILM_SYSTEM, errno) : FILM_DONE;
 }
 
+enum film_error film_unchanged(struct film *film) {
+    uint64_t length;
+
+    if (film_disk_length(film->fd, &length) < 0)
+        return film_stop(film, FILM_SYSTEM, errno);
+    return length == film->length ? FILM_DONE : film_stop(film, FILM_CHANGED, 0);
+}
+
+enum film_error film_quiet(struct film *film, uint32_t seconds) {
+    bool quiet;
+
+    if (film_is_quiet(film->fd, seconds, &quiet) < 0)
+        return film_stop(film, FILM_SYSTEM, errno);
+    film->stopped = film->stopped || !quiet;
+    return quiet ? FILM_DONE : fail(film, FILM_RECENT, seconds, 0);
+}
+
 enum film_error film_write_header(struct film *film) {
     uint32_t number;
 
@@ -105,7 +121,7 @@ enum film_error film_write_header(struct film *film) {
     number = caf_write_header(film->record, CAF_RECORD, film->window.base, film->window.room);
     if (number != CAF_DONE)
         return film_refused(film, number);
-    if (carry(film, 0, film->record[CAF_RECORD_FILE_LEN]) != FILM_DONE)
+    if (film_unchanged(film) != FILM_DONE || carry(film, 0, film->record[CAF_RECORD_FILE_LEN]) != FILM_DONE)
         return film->fault.error;
     return film_sync(film);
 }
@@ -114,14 +130,6 @@ static enum film_error ready_with_header(struct film *film) {
     if (ready(film) != FILM_DONE)
         return film->fault.error;
     return film->record[CAF_RECORD_HAS_HEADER] ? FILM_DONE : film_write_header(film);
-}
-
-enum film_error film_unchanged(struct film *film) {
-    uint64_t length;
-
-    if (film_disk_length(film->fd, &length) < 0)
-        return film_stop(film, FILM_SYSTEM, errno);
-    return length == film->length ? FILM_DONE : film_stop(film, FILM_CHANGED, 0);
 }
 
 /* A call of the library that appends `count` elements. */
@@ -146,7 +154,7 @@ static enum film_error append_piece(struct film *film, appending *call, const vo
     number = call(film->record, film->window.base, film->window.room, from, count);
     if (number != CAF_DONE)
         return film_refused(film, number);
-    return carry(film, at, bytes);
+    return film_unchanged(film) == FILM_DONE ? carry(film, at, bytes) : film->fault.error;
 }
 
 /* Elements of `size` bytes that take `width` bytes of the film each. What the library may refuse does not
@@ -157,7 +165,7 @@ static enum film_error append(struct film *film, appending *call, const void *fr
     const uint8_t *next = from;
     const size_t most = FILM_PIECE / width;
 
-    if (ready_with_header(film) != FILM_DONE || film_unchanged(film) != FILM_DONE)
+    if (ready_with_header(film) != FILM_DONE)
         return film->fault.error;
     while (count > most) {
         if (append_piece(film, call, next, most, most * width) != FILM_DONE)
@@ -186,7 +194,8 @@ enum film_error film_finish(struct film *film) {
     if (film->record[CAF_RECORD_FINISHED])
         return FILM_DONE;
     at = film->record[CAF_RECORD_SIZE_POSITION];
-    if (film_unchanged(film) != FILM_DONE || film_sync(film) != FILM_DONE ||
+    /* a sync may take long, so the look at the length comes after it */
+    if (film_sync(film) != FILM_DONE || film_unchanged(film) != FILM_DONE ||
         lend(film, at, FILM_FIELD) != FILM_DONE)
         return film->fault.error;
     number = caf_finish(film->record, CAF_RECORD, film->window.base, film->window.room);
@@ -202,9 +211,9 @@ enum film_error film_close(struct film *film) {
 
     film_window_close(&film->window);
     film->fd = 0;
-    /* a child of this process may still have the file, and would keep the lock */
-    if (fd > 0)
-        flock(fd, LOCK_UN);
+    /* a child that was forked with the film open closes its own copy: the lock is not the child's to give back */
+    if (fd > 0 && film->process == getpid())
+        film_unlock(fd);
     /* a close that a signal interrupts has closed */
     if (fd > 0 && close(fd) < 0 && errno != EINTR)
         return fail(film, FILM_SYSTEM, 0, errno);
@@ -213,8 +222,10 @@ enum film_error film_close(struct film *film) {
 
 uint64_t film_arrived(const struct film *film) {
     uint64_t start = film->record[CAF_RECORD_DATA_START];
+    /* what follows the data of a finished film is its overview */
+    uint64_t end = film->record[CAF_RECORD_FINISHED] ? film->record[CAF_RECORD_FILE_LEN] : film->length;
 
-    return film->record[CAF_RECORD_HAS_HEADER] && film->length > start ? film->length - start : 0;
+    return film->record[CAF_RECORD_HAS_HEADER] && end > start ? end - start : 0;
 }
 
 /* Of errors that no number or errno explains. */
@@ -237,6 +248,9 @@ const char *film_words(const struct film_fault *fault, char *text, size_t room) 
     if (fault->error == FILM_REFUSED)
         snprintf(text, room, "refused, number %u %s: %s", (unsigned)fault->number,
                  caf_number_name(fault->number), caf_number_words(fault->number));
+    else if (fault->error == FILM_RECENT)
+        snprintf(text, room, "modified within the last %u seconds: someone may still be writing it",
+                 (unsigned)fault->number);
     else
         snprintf(text, room, "%s",
                  fault->error == FILM_SYSTEM ? strerror(fault->system) : plain_words(fault->error));

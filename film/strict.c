@@ -30,20 +30,18 @@ static enum film_error feed_block(struct film *film, const struct film_overlay *
     return FILM_DONE;
 }
 
-static uint64_t fewer(uint64_t a, uint64_t b) { return a < b ? a : b; }
-
 /* Feeds the whole film, or as much of it as it takes to refuse it. */
 static enum film_error feed_film(struct film *film, const struct film_overlay *instead, uint64_t *feeder) {
     uint32_t number = caf_feed_begin(feeder, CAF_FEEDER);
     uint64_t at, n;
 
     for (at = 0; at < film->length && number == CAF_DONE; at += n) {
-        n = fewer(caf_feed_passable(feeder, CAF_FEEDER), film->length - at);
+        n = film_least(caf_feed_passable(feeder, CAF_FEEDER), film->length - at);
         if (n > 0) {
             number = caf_feed_pass(feeder, CAF_FEEDER, n);
             continue;
         }
-        n = fewer(BLOCK, film->length - at);
+        n = film_least(BLOCK, film->length - at);
         if (feed_block(film, instead, feeder, at, n, &number) != FILM_DONE)
             return film->fault.error;
     }

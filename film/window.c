@@ -16,12 +16,12 @@ static uint64_t page_mask(void) {
     return (uint64_t)sysconf(_SC_PAGESIZE) - 1;
 }
 
-uint64_t film_page_before(uint64_t at) {
+static uint64_t page_before(uint64_t at) {
     return at & ~page_mask();
 }
 
-uint64_t film_page_after(uint64_t at) {
-    return film_page_before(at + page_mask());
+static uint64_t page_after(uint64_t at) {
+    return page_before(at + page_mask());
 }
 
 static uint8_t *set_aside(void *where, uint64_t room, int fixed) {
@@ -49,7 +49,7 @@ int film_window_reach(struct film_window *window, uint64_t end) {
     window->base = set_aside(NULL, room, 0);
     if (window->base == NULL) {
         /* less than a power of two may still be had */
-        room = film_page_after(end);
+        room = page_after(end);
         window->base = set_aside(NULL, room, 0);
     }
     if (window->base == NULL)
@@ -67,15 +67,15 @@ int film_window_clear(struct film_window *window) {
 }
 
 int film_window_add(struct film_window *window, uint64_t at, uint64_t n) {
-    uint64_t from = film_page_before(at), to = film_page_after(at + n);
+    uint64_t from = page_before(at), to = page_after(at + n);
 
     return mprotect(window->base + from, to - from, PROT_READ | PROT_WRITE);
 }
 
 int film_window_lend(struct film_window *window, uint64_t at, size_t n) {
-    uint64_t from = film_page_before(at);
+    uint64_t from = page_before(at);
     /* a piece at least, so that small appends share one window */
-    uint64_t to = film_page_after(at + (n > FILM_PIECE ? n : FILM_PIECE));
+    uint64_t to = page_after(at + (n > FILM_PIECE ? n : FILM_PIECE));
 
     if (window->from <= at && at + n <= window->to)
         return 0;

@@ -377,7 +377,12 @@ uint32_t caf_read_overview(const uint8_t *body, size_t body_len, uint32_t channe
  *
  * Done: the call writes the next record over the old one. Refused: the record, the buffer and every
  * other place that the call was lent keep their contents, unless a call below says otherwise. Bytes
- * of the buffer that a call does not store keep their contents. What is lent as const is only read. */
+ * of the buffer that a call does not store keep their contents. What is lent as const is only read.
+ *
+ * What is proved is what the buffer holds when a call returns. The stores of a whole call may be one
+ * memmove: that they reach memory in ascending order, so that a host which dies within the call leaves
+ * what its counted form says, is assumed wherever the buffer outlives the host, as a mapped file does. Do
+ * not write films through such a buffer: film.h does not, it appends to the file what a call has stored. */
 enum caf_record_place {
     CAF_RECORD_HAS_FORMAT = 0,   /* 1 or 0; then the seven numbers of the format, not looked at for 0 */
     CAF_RECORD_RATE = 1,         /* the 64 bits of the rate */
@@ -417,8 +422,9 @@ uint32_t caf_new(uint64_t *record, size_t record_len);
  * Done: puts -1 back into the data size field of the file, eight stores from the most significant
  * byte, also where it holds -1 already, and writes the record. From then on, until caf_finish, the
  * file reads as open: whatever a host appends before it dies counts as payload. Refused: stores
- * nothing in the buffer and writes a fresh record. In both cases writes the count of chunk headers
- * met to chunks[0]. An array of another length than CAF_RECORD: CAF_BAD_WRITER; then no place for
+ * nothing in the buffer and writes a fresh record. To go on with that one begins a new file: the bytes
+ * of the old one must be cut off first, else those after a shorter header would be billed as its audio.
+ * In both cases writes the count of chunk headers met to chunks[0]. An array of another length than CAF_RECORD: CAF_BAD_WRITER; then no place for
  * the count: CAF_NO_ROOM; either stores and writes nothing. Then CAF_BAD_WRITER for a file_len above
  * buf_len or 2^63 - 1.
  *

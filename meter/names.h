@@ -1,6 +1,6 @@
-/* How the name of a file is written: for people, in CSV and in JSON. A name is any bytes but 0 and `/`,
- * so it may hold a line end, or bytes that are no text. None of them ends a line or a field early, and
- * the bytes of the name can be had back from each of the three. */
+/* How the name of a file is written: for people, in CSV, in JSON and in XML. A name is any bytes but 0 and
+ * `/`, so it may hold a line end, or bytes that are no text. None of them ends a line or a field early, and
+ * the bytes of the name can be had back from each of the first three. */
 #ifndef NAMES_H
 #define NAMES_H
 
@@ -90,6 +90,23 @@ static inline void text_json(FILE *out, const char *text) {
             fwrite(s, 1, (size_t)length, out);
     }
     putc('"', out);
+}
+
+/* A text of XML, in UTF-8. XML has no place for control characters nor for U+FFFE and U+FFFF: like bytes that are part
+ * of no character they become U+FFFD, which stands for what cannot be shown. */
+static inline void text_xml(FILE *out, const char *text) {
+    const unsigned char *s = (const unsigned char *)text;
+    int length;
+
+    for (; *s; s += length ? length : 1) {
+        length = utf8_length(s);
+        if (length == 0 || *s < 0x20 || *s == 0x7f || (length == 3 && s[0] == 0xef && s[1] == 0xbf && s[2] >= 0xbe))
+            fputs("&#xFFFD;", out);
+        else if (*s == '&' || *s == '<' || *s == '>')
+            fputs(*s == '&' ? "&amp;" : *s == '<' ? "&lt;" : "&gt;", out);
+        else
+            fwrite(s, 1, (size_t)length, out);
+    }
 }
 
 #endif

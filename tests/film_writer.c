@@ -1,6 +1,7 @@
 /* A writer of films for tests/film: one session on a film, which the test may kill, cut or starve.
  *
  *   film_writer create|open FILM AUDIO LENGTH MOST SEED [COUNTERS]
+ *   film_writer add FILM
  *
  * Byte i of the film's data is byte i of the file AUDIO, which is repeated; so a later session goes on where
  * the film ends. The session appends pieces of up to MOST bytes, by turns as bytes and as samples, until the
@@ -9,10 +10,13 @@
  * data bytes the film has by the calls that have returned.
  *
  * It prints the data bytes that arrived and the most memory it had, in KiB. Where a call fails it prints the
- * call, the fault in words and the bytes that arrived, and exits with 1.
+ * call, the fault in words and the bytes that arrived, and exits with 1. `add` adds an overview to a film on the
+ * disk, and prints the payload that was worked out in the place of what arrived.
  *
- * From the environment: FILM_STOP_AFTER=n kills the process when n bytes were written to files, in the middle
- * of a write if need be. FILM_SHORT=n lets a write take at most n bytes, and interrupts every third one.
+ * From the environment: FILM_OVERVIEW=n appends an overview of n frames per sample after the finish, or adds it.
+ * FILM_STOP_AFTER=n kills the process when n bytes were written to files, in the middle of a write if need be.
+ * FILM_SHORT=n lets a write take at most n bytes, and interrupts every third one, and every other opening and
+ * locking of the film. FILM_SHORTEN=n cuts all bytes off the film when n were written.
  * FILM_SLOW=n makes every sync take n microseconds more before it and after it. FILM_BAD_SYNC=n makes the
  * sync of that number fail. FILM_TELL=1 prints every write, with its place and length, and every sync. */
 #define _DEFAULT_SOURCE
@@ -20,17 +24,20 @@
 #include <fcntl.h>
 #include <inttypes.h>
 #include <signal.h>
+#include <stdarg.h>
 #include <stdatomic.h>
 #include <stdio.h>
 #include <stdlib.h>
 #include <string.h>
+#include <sys/file.h>
 #include <sys/mman.h>
 #include <unistd.h>
 
 #include "film.h"
 #include "caf_names.h"
 
-enum doing { NOTHING = 0, BEGINNING = 1, APPENDING = 2, FINISHING = 3, FINISHED = 4 };
+/* SHOWING is between FINISHING and FINISHED, where an overview is asked for */
+enum doing { NOTHING = 0, BEGINNING = 1, APPENDING = 2, FINISHING = 3, FINISHED = 4, SHOWING = 5 };
 
 struct counters {
     _Atomic uint64_t doing, returned;
@@ -58,6 +65,10 @@ ssize_t __real_pwrite(int fd, const void *bytes, size_t n, off_t at);
 ssize_t __wrap_pwrite(int fd, const void *bytes, size_t n, off_t at);
 int __real_fdatasync(int fd);
 int __wrap_fdatasync(int fd);
+int __real_open(const char *path, int flags, ...);
+int __wrap_open(const char *path, int flags, ...);
+int __real_flock(int fd, int how);
+int __wrap_flock(int fd, int how);
 
 ssize_t __wrap_pwrite(int fd, const void *bytes, size_t n, off_t at) {
     static uint64_t written, calls;
@@ -80,7 +91,33 @@ ssize_t __wrap_pwrite(int fd, const void *bytes, size_t n, off_t at) {
         written += (uint64_t)wrote;
     if (written == stop_after)
         kill(getpid(), SIGKILL);
+    if (written >= from_environment("FILM_SHORTEN", UINT64_MAX) && ftruncate(fd, 0) < 0)
+        return -1;
     return wrote;
+}
+
+static bool is_interrupted(void) {
+    static uint64_t calls;
+
+    if (from_environment("FILM_SHORT", 0) == 0 || ++calls % 2 == 0)
+        return false;
+    errno = EINTR;
+    return true;
+}
+
+int __wrap_open(const char *path, int flags, ...) {
+    va_list more;
+    mode_t mode;
+
+    va_start(more, flags);
+    mode = flags & O_CREAT ? va_arg(more, mode_t) : 0;
+    va_end(more);
+    /* the layer's own calls have this flag */
+    return flags & O_NONBLOCK && is_interrupted() ? -1 : __real_open(path, flags, mode);
+}
+
+int __wrap_flock(int fd, int how) {
+    return is_interrupted() ? -1 : __real_flock(fd, how);
 }
 
 int __wrap_fdatasync(int fd) {
@@ -200,10 +237,33 @@ static int run(struct session *s, const char *how, const char *path, const char 
     say(s, FINISHING);
     if (film_finish(&s->film))
         return failed(s, "finish");
+    if (getenv("FILM_OVERVIEW") != NULL) {
+        say(s, SHOWING);
+        if (film_append_overview(&s->film, (uint32_t)from_environment("FILM_OVERVIEW", 0)))
+            return failed(s, "overview");
+    }
     if (film_close(&s->film))
         return failed(s, "close");
     say(s, FINISHED);
     printf("arrived %" PRIu64 "\nmemory %ld\n", film_arrived(&s->film), most_memory());
+    return 0;
+}
+
+static void take_progress(void *self, uint64_t done, uint64_t payload) {
+    (void)payload;
+    *(uint64_t *)self = done;
+}
+
+static int add(const char *path) {
+    struct film_fault fault;
+    uint64_t done = 0;
+    char words[FILM_WORDS];
+
+    if (film_add_overview(path, (uint32_t)from_environment("FILM_OVERVIEW", 0), take_progress, &done, &fault)) {
+        printf("add: %s\n", film_words(&fault, words, sizeof words));
+        return 1;
+    }
+    printf("worked out %" PRIu64 "\nmemory %ld\n", done, most_memory());
     return 0;
 }
 
@@ -224,6 +284,8 @@ int main(int argc, char **argv) {
     static struct session s;
     int status;
 
+    if (argc == 3 && strcmp(argv[1], "add") == 0)
+        return add(argv[2]);
     if (argc < 7)
         return 2;
     s.counters = argc > 7 ? share(argv[7]) : &unshared;

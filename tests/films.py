@@ -1,6 +1,8 @@
-"""Films for tests/film and tests/recover: the programs, and what a film must be, made from the layout of document 01 and not by the library."""
+"""Films for tests/film, tests/recover and tests/overview_films: the programs, and what a film must be, made from the layout of document 01 and not by the library."""
+import fcntl
 import pathlib
 import random
+import signal
 import struct
 import subprocess
 
@@ -36,10 +38,31 @@ def noise(length):
     return random.Random(SEED).randbytes(length)
 
 
+def spread(path):
+    """An open film of six bytes with 10,000 chunks before its data, each on a page of its own: 40 MiB of pages."""
+    path.write_bytes(caf.header() + caf.desc() + caf.chunk(b'free', bytes(4084)) * 10000 + caf.data(bytes(6), -1))
+
+
+def has_leases(path):
+    """Whether the system tells of programs that have this file open for writing, to its owner."""
+    with path.open('rb') as file:
+        try:
+            fcntl.fcntl(file, fcntl.F_SETSIG, signal.SIGURG)
+            fcntl.fcntl(file, fcntl.F_SETLEASE, fcntl.F_RDLCK)
+        except OSError:
+            return False
+    return True
+
+
 def build():
     """Builds the layer, and gives the path of recover."""
     made = subprocess.run([TOP / 'film' / 'build'], check=True, stdout=subprocess.PIPE, text=True).stdout.split()
     return TOP / made[1]
+
+
+def build_writer():
+    """Builds film_writer, which the linker gives a disk with faults."""
+    return build_test('film_writer', '-Wl,--wrap=pwrite,--wrap=fdatasync,--wrap=open,--wrap=flock')
 
 
 def build_test(name, *flags):
