@@ -132,7 +132,7 @@ const MPEG_5_0_A: Row = Row {
     labels: [L, R, C, LS, RS, 0, 0, 0],
 };
 
-const MPEG_5_0_B: Row = Row {
+pub(crate) const MPEG_5_0_B: Row = Row {
     tag: tag::MPEG_5_0_B,
     count: 5,
     labels: [L, R, LS, RS, C, 0, 0, 0],
@@ -216,7 +216,7 @@ const ITU_2_1: Row = Row {
     labels: [L, R, CS, 0, 0, 0, 0, 0],
 };
 
-const ITU_2_2: Row = Row {
+pub(crate) const ITU_2_2: Row = Row {
     tag: tag::ITU_2_2,
     count: 4,
     labels: [L, R, LS, RS, 0, 0, 0, 0],
@@ -258,7 +258,7 @@ const DVD_18: Row = Row {
     labels: [L, R, LS, RS, LFE, 0, 0, 0],
 };
 
-const DVD_20: Row = Row {
+pub(crate) const DVD_20: Row = Row {
     tag: tag::DVD_20,
     count: 6,
     labels: [L, R, LS, RS, C, CS, 0, 0],
