@@ -22,25 +22,61 @@ fn copy(to: &mut [u8], from: &[u8])
     }
 }
 
-// Large, so that a long copy goes to memory as one memmove does: above the caches each further piece costs.
-const PIECE: usize = 0x1_0000;
+// Through a local array. It lies apart from both slices, which two slices need not, so that the compiler makes one memmove of the
+// two copies and drops the array: it takes no stack (tests/stack).
+fn copy_through(held: &mut [u8], to: &mut [u8], from: &[u8])
+    requires { ⌜ (length (now to) ≡ length (now from)) × (length (now from) ≤ length (now held)) ⌝ }
+    ensures { λ _. ⌜ now (to .exit) ≡ now (from .entry) ⌝ }
+{
+    let n = from.len();
+    copy(&mut held[..n], from);
+    copy(to, &held[..n]);
+}
+
+// Most calls are short: where nothing drops the array, as in a run without the optimiser, they take one that a stack has room for.
+const SHORT: usize = 0x1_0000;
+
+fn short_space() -> [u8; SHORT]
+    ensures { λ r. ⌜ 65536 ≡ length r ⌝ }
+{
+    [0u8; SHORT]
+}
+
+fn copy_short(to: &mut [u8], from: &[u8])
+    requires { ⌜ (length (now to) ≡ length (now from)) × (length (now from) ≤ 65536) ⌝ }
+    ensures { λ _. ⌜ now (to .exit) ≡ now (from .entry) ⌝ }
+{
+    let mut held = short_space();
+    copy_through(&mut held, to, from);
+}
+
+// A long copy is to go to memory as one memmove does, which stores past the caches from some length on that the C library sets by
+// their size: pieces are longer than that.
+const PIECE: usize = 0x2000_0000;
 
 fn space() -> [u8; PIECE]
-    ensures { λ r. ⌜ 65536 ≡ length r ⌝ }
+    ensures { λ r. ⌜ 536870912 ≡ length r ⌝ }
 {
     [0u8; PIECE]
 }
 
-// Through a local array. It lies apart from both slices, which two slices need not, so that the compiler makes one memmove of the
-// two copies and drops the array: it takes no stack (tests/stack).
-fn copy_piece(to: &mut [u8], from: &[u8])
-    requires { ⌜ (length (now to) ≡ length (now from)) × (length (now from) ≤ 65536) ⌝ }
+fn copy_long(to: &mut [u8], from: &[u8])
+    requires { ⌜ (length (now to) ≡ length (now from)) × (length (now from) ≤ 536870912) ⌝ }
     ensures { λ _. ⌜ now (to .exit) ≡ now (from .entry) ⌝ }
 {
     let mut held = space();
-    let n = from.len();
-    copy(&mut held[..n], from);
-    copy(to, &held[..n]);
+    copy_through(&mut held, to, from);
+}
+
+fn copy_piece(to: &mut [u8], from: &[u8])
+    requires { ⌜ (length (now to) ≡ length (now from)) × (length (now from) ≤ 536870912) ⌝ }
+    ensures { λ _. ⌜ now (to .exit) ≡ now (from .entry) ⌝ }
+{
+    if from.len() <= SHORT {
+        copy_short(to, from);
+    } else {
+        copy_long(to, from);
+    }
 }
 
 fn copy_all(to: &mut [u8], from: &[u8])
