@@ -3,16 +3,13 @@ import struct
 
 import caf_files as caf
 import films
+import overview_due as due
 from films import closed, opened, sized
 
 
 def overview(audio, group, channels=2, order='big', edits=0):
-    """The chunk: of each group and channel the least and the greatest sample, divided by 256 and rounded down."""
-    samples = [int.from_bytes(audio[i:i + 3], order, signed=True) // 256 for i in range(0, len(audio), 3)]
-    step = group * channels
-    pairs = [pair for at in range(0, len(samples), step) for c in range(channels)
-             for pair in (min(samples[at + c:at + step:channels]), max(samples[at + c:at + step:channels]))]
-    return caf.chunk(b'ovvw', struct.pack('>II', edits, group) + struct.pack(f'>{len(pairs)}h', *pairs))
+    """The chunk that some audio has."""
+    return due.chunk(list(due.groups_of(due.unpacked(audio, order), channels, group)), group, edits)
 
 
 def little(audio, edits=0):
