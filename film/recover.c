@@ -5,7 +5,7 @@
  * A line for each file: what it was, with its payload and frames, and what it is now. A closed file is not
  * written to. A refused one is not changed, and its line says why. With --dry-run nothing is changed, and the
  * lines say what would be. A file that can't be read or written, or that someone writes, is reported on standard
- * error, and the others are still done.
+ * error, and the others are still done. Of a film that ends within its overview that chunk is taken off.
  *
  * Whether a program has a file open for writing is asked of the system. Where that can't be told (film.h says
  * where) a film that is to be closed is left alone if it was modified within the last 60 seconds. With

@@ -1,4 +1,5 @@
-"""What overview a film must have, and how it is shown: the numbers, the picture in characters and the one in SVG, worked out from the samples."""
+"""What overview a film must have, for tests/overview and tests/overview_films, and how it is shown: the numbers, the picture in characters and the one in
+SVG, worked out from the samples."""
 import re
 import struct
 
@@ -8,13 +9,13 @@ import caf_files as caf
 NAMES = {1: 'Left', 2: 'Right', 3: 'Center', 4: 'LFE Screen', 5: 'Left Surround', 6: 'Right Surround', 13: 'Vertical Height Left'}
 
 
-def packed(samples, little=False):
-    return b''.join(struct.pack('<i' if little else '>i', sample << 8)[1:] if little else struct.pack('>i', sample << 8)[:3] for sample in samples)
-
-
-def unpacked(audio, little=False):
+def packed(samples, order='big'):
     """Samples of 24 bits."""
-    return [int.from_bytes(audio[at:at + 3], 'little' if little else 'big', signed=True) for at in range(0, len(audio), 3)]
+    return b''.join(sample.to_bytes(3, order, signed=True) for sample in samples)
+
+
+def unpacked(audio, order='big'):
+    return [int.from_bytes(audio[at:at + 3], order, signed=True) for at in range(0, len(audio), 3)]
 
 
 def groups_of(samples, channels, frames):
