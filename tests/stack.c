@@ -41,7 +41,8 @@ enum {
 
 /* ---- what the calls are lent */
 
-enum { ROOM = 512 };
+/* LONG: one byte more than the short one of the arrays that a copy goes through (byteorder) */
+enum { LONG = (64 << 10) + 1, ROOM = 512 + LONG };
 
 static uint64_t record[CAF_RECORD], feeder[CAF_FEEDER], place[CAF_CHAN_PLACES], out[CAF_STRICT_PLACES];
 static uint32_t descriptions[8 * CAF_DESCRIPTION];
@@ -49,6 +50,7 @@ static int16_t pairs[2 * 8];
 static uint8_t buf[ROOM], bytes[12], tray[CAF_TRAY_COUNT + CAF_TRAY_ROW + ROOM];
 static uint64_t length;
 static int32_t samples[4] = {1, -1, 8388607, -8388608};
+static const uint8_t silence[LONG];
 static const uint8_t data[12] = {1, 2, 3, 4, 5, 6, 7, 8, 9, 10, 11, 12};
 
 /* labels of the first row that is searched, of the last, and of none; the count of the latter is the most that a row has */
@@ -149,6 +151,7 @@ static uint32_t pass(void) { return caf_feed_pass(feeder, CAF_FEEDER, 12); }
 static uint32_t feed_end(void) { return caf_feed_end(feeder, CAF_FEEDER, out, CAF_STRICT_PLACES); }
 static uint32_t read_tray(void) { return caf_read_tray(tray, CAF_TRAY_COUNT + CAF_TRAY_ROW + LENGTH, out, CAF_CLIP); }
 static uint32_t write_tray(void) { return caf_write_tray(buf, LENGTH, &length, 1, tray, sizeof tray); }
+static uint32_t long_tray(void) { return caf_write_tray(silence, length = LONG, &length, 1, tray, sizeof tray); }
 static uint32_t layout_first(void) { return caf_layout_for_labels(first, 1, out, CAF_LAYOUT_PLACES); }
 static uint32_t layout_last(void) { return caf_layout_for_labels(last, 8, out, CAF_LAYOUT_PLACES); }
 static uint32_t layout_none(void) { return caf_layout_for_labels(none, 8, out, CAF_LAYOUT_PLACES); }
@@ -171,11 +174,13 @@ static uint32_t choose(void) { return caf_set_overview_group(record, CAF_RECORD,
 static uint32_t append_overview(void) { return caf_append_overview(record, CAF_RECORD, buf, ROOM); }
 static uint32_t header(void) { return caf_write_header(record, CAF_RECORD, buf, ROOM); }
 static uint32_t write_data(void) { return caf_write_data(record, CAF_RECORD, buf, ROOM, data, 12); }
+static uint32_t long_data(void) { return caf_write_data(record, CAF_RECORD, buf, ROOM, silence, LONG); }
 static uint32_t write_samples(void) { return caf_write_samples(record, CAF_RECORD, buf, ROOM, samples, 4); }
 static uint32_t finish(void) { return caf_finish(record, CAF_RECORD, buf, ROOM); }
 static uint32_t stats(void) { return caf_stats(record, CAF_RECORD, out, CAF_STATS_PLACES); }
 static uint32_t header_counted(void) { return caf_write_header_counted(record, CAF_RECORD, buf, ROOM, ROOM, out, CAF_COUNTED_PLACES); }
 static uint32_t data_counted(void) { return caf_write_data_counted(record, CAF_RECORD, buf, ROOM, data, 12, 12, out, CAF_COUNTED_PLACES); }
+static uint32_t long_counted(void) { return caf_write_data_counted(record, CAF_RECORD, buf, ROOM, silence, LONG, LONG, out, CAF_COUNTED_PLACES); }
 static uint32_t samples_counted(void) { return caf_write_samples_counted(record, CAF_RECORD, buf, ROOM, samples, 4, 12, out, CAF_COUNTED_PLACES); }
 static uint32_t finish_counted(void) { return caf_finish_counted(record, CAF_RECORD, buf, ROOM, 8, out, CAF_COUNTED_PLACES); }
 static uint32_t pack(void) { return caf_pack_24(samples, 4, false, bytes, 12); }
@@ -199,6 +204,7 @@ static const struct row {
     {"caf_feed_end", fed_all, feed_end},
     {"caf_read_tray", in_a_tray, read_tray},
     {"caf_write_tray", in_a_tray, write_tray},
+    {"caf_write_tray", fresh, long_tray},
     {"caf_layout_for_labels", fresh, layout_first},
     {"caf_layout_for_labels", fresh, layout_last},
     {"caf_layout_for_labels", fresh, layout_none},
@@ -222,6 +228,7 @@ static const struct row {
     {"caf_write_header", tagged, header},
     {"caf_write_header", described, header},
     {"caf_write_data", begun, write_data},
+    {"caf_write_data", begun, long_data},
     {"caf_write_samples", begun, write_samples},
     {"caf_finish", filled, finish},
     {"caf_append_overview", chosen, append_overview},
@@ -229,6 +236,7 @@ static const struct row {
     {"caf_write_header_counted", tagged, header_counted},
     {"caf_write_header_counted", described, header_counted},
     {"caf_write_data_counted", begun, data_counted},
+    {"caf_write_data_counted", begun, long_counted},
     {"caf_write_samples_counted", begun, samples_counted},
     {"caf_finish_counted", filled, finish_counted},
     {"caf_pack_24", fresh, pack},

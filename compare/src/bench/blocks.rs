@@ -7,8 +7,8 @@ use std::io::Read;
 
 use crate::files::chunks_before;
 use crate::linked::{self, Feeder};
-use crate::measured::{Windows, repeated};
 use crate::race::{Goal, Table};
+use crate::timed::{Windows, repeated};
 use crate::{KIB, MIB};
 
 /// A file of small chunks, fed in blocks.

@@ -4,6 +4,15 @@
 unsafe extern "C" {
     fn caf_parse(file: *const u8, file_len: usize, out: *mut u64, out_len: usize) -> u32;
     fn caf_read_strict(file: *const u8, file_len: usize, out: *mut u64, out_len: usize) -> u32;
+    fn caf_read_tray(tray: *const u8, tray_len: usize, out: *mut u64, out_len: usize) -> u32;
+    fn caf_write_tray(
+        bodies: *const u8,
+        bodies_len: usize,
+        lengths: *const u64,
+        clip_count: usize,
+        out: *mut u8,
+        out_len: usize,
+    ) -> u32;
     fn caf_layout_for_labels(labels: *const u32, count: usize, out: *mut u64, out_len: usize) -> u32;
     fn caf_pack_24(samples: *const i32, count: usize, little: bool, out: *mut u8, out_len: usize) -> u32;
     fn caf_unpack_24(bytes: *const u8, count: usize, little: bool, out: *mut i32, out_len: usize) -> u32;
@@ -34,6 +43,7 @@ unsafe extern "C" {
         labels: *const u32,
         label_count: usize,
     ) -> u32;
+    fn caf_set_overview_group(record: *mut u64, record_len: usize, group: u32) -> u32;
     fn caf_write_header(record: *mut u64, record_len: usize, buf: *mut u8, buf_len: usize) -> u32;
     fn caf_write_data(
         record: *mut u64,
@@ -52,6 +62,7 @@ unsafe extern "C" {
         count: usize,
     ) -> u32;
     fn caf_finish(record: *mut u64, record_len: usize, buf: *mut u8, buf_len: usize) -> u32;
+    fn caf_append_overview(record: *mut u64, record_len: usize, buf: *mut u8, buf_len: usize) -> u32;
     fn caf_resume(
         buf: *mut u8,
         buf_len: usize,
@@ -77,6 +88,23 @@ pub fn plain(file: &[u8], found: &mut Found) -> u32 {
 
 pub fn strict(file: &[u8], found: &mut Found) -> u32 {
     unsafe { caf_read_strict(file.as_ptr(), file.len(), found.as_mut_ptr(), found.len()) }
+}
+
+/// Number, chunk headers, payload and frames of a clip.
+pub type Clip = [u64; 4];
+
+/// The number of the tray; what is found goes into as many places as it has clips.
+pub fn read_tray(tray: &[u8], clips: &mut [Clip]) -> u32 {
+    let places = clips.as_flattened_mut();
+    unsafe { caf_read_tray(tray.as_ptr(), tray.len(), places.as_mut_ptr(), places.len()) }
+}
+
+/// The tray of clips that stand joined.
+pub fn tray(bodies: &[u8], lengths: &[u64]) -> Vec<u8> {
+    let mut tray = vec![0; 4 + 16 * lengths.len() + bodies.len()];
+    let (clips, count, out) = (lengths.as_ptr(), lengths.len(), tray.as_mut_ptr());
+    assert_eq!(unsafe { caf_write_tray(bodies.as_ptr(), bodies.len(), clips, count, out, tray.len()) }, 0);
+    tray
 }
 
 /// The tag for these labels, or 0.
@@ -120,6 +148,7 @@ impl Feeder {
 const RECORD: usize = 84;
 
 /// A writer record as a caller in C keeps it.
+#[derive(Clone)]
 pub struct Writer([u64; RECORD]);
 
 impl Writer {
@@ -161,6 +190,10 @@ impl Writer {
         unsafe { caf_configure_format(record, RECORD, rate, channels, bits, labels.as_ptr(), labels.len()) }
     }
 
+    pub fn set_overview_group(&mut self, group: u32) -> u32 {
+        unsafe { caf_set_overview_group(self.0.as_mut_ptr(), RECORD, group) }
+    }
+
     pub fn header(&mut self, buf: &mut [u8]) -> u32 {
         unsafe { caf_write_header(self.0.as_mut_ptr(), RECORD, buf.as_mut_ptr(), buf.len()) }
     }
@@ -177,5 +210,8 @@ impl Writer {
 
     pub fn finish(&mut self, buf: &mut [u8]) -> u32 {
         unsafe { caf_finish(self.0.as_mut_ptr(), RECORD, buf.as_mut_ptr(), buf.len()) }
+    }
+    pub fn append_overview(&mut self, buf: &mut [u8]) -> u32 {
+        unsafe { caf_append_overview(self.0.as_mut_ptr(), RECORD, buf.as_mut_ptr(), buf.len()) }
     }
 }

@@ -1,8 +1,6 @@
 //! The rows of a table: two sides of work held against each other, and what comes of it.
-//!
-//! How a side is measured stands in `measured`: by the clock (timed.rs), or by the instructions that an emulator tells (traced.rs).
 
-use crate::measured::{self, Windows};
+use crate::timed::{self, Windows};
 
 /// One side of a race: some windows of its work.
 pub type Side<'a> = Box<dyn FnMut(&mut Windows) + 'a>;
@@ -33,7 +31,7 @@ pub struct Table(Vec<String>);
 
 impl Table {
     pub fn new(asked: Vec<String>) -> Self {
-        measured::begin();
+        timed::begin();
         Table(asked)
     }
 
@@ -53,6 +51,6 @@ pub struct Row {
 
 impl Row {
     pub fn race(self, ours: Side, theirs: Side) {
-        measured::race(&self, [ours, theirs]);
+        timed::race(&self, [ours, theirs]);
     }
 }

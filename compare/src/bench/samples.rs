@@ -3,8 +3,8 @@
 use std::hint::black_box;
 
 use crate::linked;
-use crate::measured::repeated;
 use crate::race::{Goal, Table};
+use crate::timed::repeated;
 
 const SAMPLES: usize = 4096;
 

@@ -9,12 +9,12 @@ use oracle::caf::{CAFWriter, ChannelLabel, ChannelLayoutTag, Endianness, PCMData
 
 use crate::files::example;
 use crate::linked::{self, Writer};
-use crate::measured::{Windows, repeated};
 use crate::race::{Goal, Row, Side, Table};
+use crate::timed::{Windows, repeated};
 use crate::{KIB, MIB};
 
 /// Head, format and the start of the data.
-const HEADER: usize = 68;
+pub const HEADER: usize = 68;
 
 /// A writer of the text that has just written its header; it is not dropped, since that would finish it.
 fn rust_writer(buffer: &mut [u8]) -> ManuallyDrop<CAFWriter<Cursor<&mut [u8]>>> {

@@ -10,15 +10,18 @@ mod blocks;
 mod files;
 #[path = "../bench/linked.rs"]
 mod linked;
-#[cfg_attr(traced, path = "../bench/traced.rs")]
-#[cfg_attr(not(traced), path = "../bench/timed.rs")]
-mod measured;
+#[path = "../bench/overviews.rs"]
+mod overviews;
 #[path = "../bench/race.rs"]
 mod race;
 #[path = "../bench/readings.rs"]
 mod readings;
 #[path = "../bench/samples.rs"]
 mod samples;
+#[path = "../bench/timed.rs"]
+mod timed;
+#[path = "../bench/trays.rs"]
+mod trays;
 #[path = "../bench/writing.rs"]
 mod writing;
 
@@ -36,8 +39,12 @@ fn main() {
     writing::clip(&table);
     writing::lookups(&table);
     writing::single_calls(&table);
+    overviews::appended(&table);
+    overviews::copied(&table);
     blocks::fed_chunks(&table);
+    trays::called(&table);
     readings::opened(&table);
+    trays::opened(&table);
     blocks::fed_data(&table);
     blocks::streams(&table);
 }
