@@ -43,8 +43,8 @@
  * (FILM_CHANGED) and still has a name (FILM_SYSTEM with ENOENT).
  *
  * film_open waits up to a second for a film that someone else has, since who recovers it or asks whether it is
- * written has it for a moment; film_recover waits for nobody, and keeps a film from others only while it writes
- * to it.
+ * written has it for a moment; film_recover waits for nobody, and locks a film only where it found something to
+ * write.
  *
  * What arrived may end within a frame, after a kill or on a full disk. Whoever resumes goes on with the very
  * next byte, film_arrived, by film_append, before whole samples are appended again.
