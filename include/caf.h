@@ -51,6 +51,8 @@ enum caf_number {
     CAF_NO_GROUP = 26,
     CAF_WRONG_WIDTH = 27,
     CAF_BAD_TRAY = 28,
+    CAF_NOT_FOR_WAVE = 29,
+    CAF_BAD_WAVE = 32,
     CAF_DATA_BEGUN = 33
 };
 
@@ -574,6 +576,92 @@ uint32_t caf_pack_24(const int32_t *samples, size_t sample_count, bool little_en
  * Numbers: 20, 14. */
 uint32_t caf_unpack_24(const uint8_t *bytes, size_t byte_count, bool little_endian,
                        int32_t *out, size_t out_len);
+
+/* ---- WAVE
+ *
+ * A closed CAF file of 24-bit integers is delivered as a WAVE file: little-endian samples, an extensible
+ * format chunk with a channel mask, a zero byte after odd data; RF64 with a `ds64` chunk where the RIFF
+ * size would pass 4294967294. Channels keep their order, so that only labels which ascend, from 1 to 18,
+ * can be delivered: label n is bit n - 1 of the mask.
+ *
+ * A film of any length goes through a block:
+ *
+ *     number = caf_wave_plan(file, file_len, head, CAF_WAVE_HEAD, plan, CAF_PLAN_PLACES);
+ *     write(fd, head, plan[CAF_PLAN_HEAD_SIZE]);
+ *     for (at = 0; at < plan[CAF_PLAN_PAYLOAD]; at += n) {
+ *         n = ... ; (a multiple of 3, at most what is left)
+ *         memcpy(block, file + plan[CAF_PLAN_START] + at, n);
+ *         caf_wave_samples(block, n, plan[CAF_PLAN_LITTLE]);
+ *         write(fd, block, n);
+ *     }
+ *     if (plan[CAF_PLAN_PAYLOAD] % 2) write(fd, "", 1);
+ *
+ * However it is cut, the file is the one that caf_to_wave makes. */
+
+/* Bytes of the longest header, that of RF64. RIFF has 68. */
+enum { CAF_WAVE_HEAD = 104 };
+
+/* The header of a WAVE file with this format, labels and payload. The format stands in info[1..7], as
+ * caf_read_strict gives it; of the six numbers after the rate the low 32 bits are looked at. Done:
+ * writes the header to head and its size, 68 or 104, to size[0]. Refused: writes nothing. In this order:
+ *   CAF_NO_ROOM       no place for the size;
+ *   CAF_WRONG_WIDTH   not `lpcm` of 24-bit integers, three bytes for each of at least one channel, or a
+ *                     payload that is not whole frames;
+ *   CAF_NOT_FOR_WAVE  labels that are not one for each channel, from 1 to 18 and ascending; a rate that is
+ *                     no whole number from 1 to 4294967295; 3 * channels * rate from 2^32 on; a size from 2^64 on;
+ *   CAF_NO_ROOM       a header that is longer than head_len.
+ *
+ * Numbers: 14, 27, 29, 14. */
+uint32_t caf_wave_header(const uint64_t *info, size_t info_len, const uint32_t *labels, size_t label_count,
+                         uint64_t payload, uint8_t *head, size_t head_len, uint64_t *size, size_t size_len);
+
+/* Places in the array that caf_wave_plan fills. */
+enum caf_plan_place {
+    CAF_PLAN_HEAD_SIZE = 0, /* bytes of the header: 68 or 104 */
+    CAF_PLAN_START = 1,     /* where the samples begin in the CAF file */
+    CAF_PLAN_PAYLOAD = 2,   /* how many bytes they are */
+    CAF_PLAN_LITTLE = 3,    /* 1 where their low byte stands first, else 0 */
+    CAF_PLAN_PLACES = 4
+};
+
+/* The header of the WAVE file that a CAF file makes. It looks at chunk headers, `desc` and `chan` and at no
+ * sample, so that a film of any length can be mapped. Done: writes the header to head and out[0..3].
+ * Refused: writes nothing.
+ *
+ * Numbers: 14; as caf_read_strict 1, 2, 6, then chunk by chunk 3, 1, 7, 23, 4, 1, 5, 8; 1, 22; 25, 27, 29, 14. */
+uint32_t caf_wave_plan(const uint8_t *file, size_t file_len, uint8_t *head, size_t head_len,
+                       uint64_t *out, size_t out_len);
+
+/* Samples turned where they stand: from the byte order that they are in to low byte first.
+ * CAF_ODD_LENGTH where 3 does not divide byte_count: changes nothing.
+ *
+ * Numbers: 20. */
+uint32_t caf_wave_samples(uint8_t *bytes, size_t byte_count, bool little_endian);
+
+/* The whole WAVE file that a CAF file makes, from wave[0] on, and its length to length[0]. Bytes after it
+ * keep their contents. Refused: writes nothing. `wave` needs plan[CAF_PLAN_HEAD_SIZE] +
+ * plan[CAF_PLAN_PAYLOAD] bytes, and one more for an odd payload.
+ *
+ * Numbers: 14; as caf_wave_plan 1, 2, 6, then chunk by chunk 3, 1, 7, 23, 4, 1, 5, 8; 1, 22; 25, 27, 29, 14. */
+uint32_t caf_to_wave(const uint8_t *file, size_t file_len, uint8_t *wave, size_t wave_len,
+                     uint64_t *length, size_t length_len);
+
+/* Places in the array that caf_wave_read fills. */
+enum caf_wave_place {
+    CAF_WAVE_RATE = 0, /* in Hz */
+    CAF_WAVE_CHANNELS = 1,
+    CAF_WAVE_MASK = 2,
+    CAF_WAVE_START = 3,   /* where the samples begin: 68, or 104 for RF64 */
+    CAF_WAVE_PAYLOAD = 4, /* bytes of audio */
+    CAF_WAVE_PLACES = 5
+};
+
+/* What a WAVE file says that a conversion makes. Every other file is CAF_BAD_WAVE: other chunks, another width,
+ * RF64 where RIFF would do, a pad byte that is not zero, a byte too many or too few. It looks at the
+ * header and the pad byte. Done: writes out[0..4]. Refused: writes nothing.
+ *
+ * Numbers: 14, 32. */
+uint32_t caf_wave_read(const uint8_t *file, size_t file_len, uint64_t *out, size_t out_len);
 
 #ifdef __cplusplus
 }

@@ -30,6 +30,8 @@ enum fault {
     TAILED = 1 << 22,
     GROUP = 1 << 23, /* of no frames */
     WIDTH = 1 << 24, /* of a sample */
+    NO_WAVE = 1 << 25, /* can say it */
+    BAD_WAVE = 1 << 26,
     TAG = 1 << 9,
     MANY = 1 << 10, /* labels */
     LABEL = 1 << 11,
@@ -57,6 +59,8 @@ static uint32_t number_of(enum fault fault) {
     case TAILED: return CAF_TAIL_AFTER_DATA;
     case GROUP: return CAF_NO_GROUP;
     case WIDTH: return CAF_WRONG_WIDTH;
+    case NO_WAVE: return CAF_NOT_FOR_WAVE;
+    case BAD_WAVE: return CAF_BAD_WAVE;
     case TAG: return CAF_BAD_TAG;
     case MANY: return CAF_TOO_MANY_LABELS;
     case LABEL: return CAF_BAD_LABEL;
@@ -308,6 +312,36 @@ static uint32_t resume_counted(const struct file *file, unsigned faults) {
     return caf_resume_counted(buf, ROOM, faults & BEYOND ? ROOM + 1 : file->len, 8, out, places(faults, CAF_RESUME_COUNTED_PLACES));
 }
 
+/* ---- WAVE: a film of no frames, whose WAVE file is its header */
+
+enum { RIFF_HEAD = 68 };
+
+static size_t head_room(unsigned faults) { return faults & SMALL ? RIFF_HEAD - 1 : CAF_WAVE_HEAD; }
+
+static uint32_t wave_plan(const struct file *file, unsigned faults) {
+    return caf_wave_plan(contents(file), file->len, buf, head_room(faults), out, places(faults, CAF_PLAN_PLACES));
+}
+
+static uint32_t to_wave(const struct file *file, unsigned faults) {
+    return caf_to_wave(contents(file), file->len, buf, head_room(faults), out, places(faults, 1));
+}
+
+static uint32_t wave_header(unsigned faults) {
+    static const uint32_t both[2] = {CAF_LABEL_LEFT, CAF_LABEL_RIGHT};
+    uint64_t info[CAF_STRICT_PLACES];
+
+    HOLDS(caf_read_strict(contents(stereo), stereo->len, info, CAF_STRICT_PLACES) == CAF_DONE);
+    info[CAF_STRICT_BITS] = faults & WIDTH ? 16 : 24;
+    return caf_wave_header(info, CAF_STRICT_PLACES, both, faults & NO_WAVE ? 1 : 2, 0, buf, head_room(faults), out, places(faults, 1));
+}
+
+static uint32_t wave_samples(unsigned faults) { return caf_wave_samples(buf, faults & ODD ? 7 : 6, false); }
+
+static uint32_t wave_read(unsigned faults) {
+    HOLDS(to_wave(stereo, NONE) == CAF_DONE && out[0] == RIFF_HEAD);
+    return caf_wave_read(buf, faults & BAD_WAVE ? RIFF_HEAD - 1 : RIFF_HEAD, out, places(faults, CAF_WAVE_PLACES));
+}
+
 /* ---- what is held */
 
 /* A call with its faults, in the order in which it tests for them. */
@@ -413,6 +447,26 @@ static void readings(void) {
     printf("\n");
 }
 
+static void delivery(const char *name, reading call) {
+    static const order room_first = {PLACES};
+
+    print_order(name, room_first);
+    HOLDS(call(stereo, NONE) == CAF_DONE);
+    show_files(call, room_first, strict_files, COUNT(strict_files));
+    show_files(call, room_first, layout_files, COUNT(layout_files));
+    show_files(call, room_first, wave_files, COUNT(wave_files));
+    HOLDS(call(stereo, SMALL) == CAF_NO_ROOM);
+    printf(" %u\n", CAF_NO_ROOM);
+}
+
+static void deliveries(void) {
+    show(&(const struct row){"caf_wave_header", wave_header, {PLACES, WIDTH, NO_WAVE, SMALL}}, 1);
+    delivery("caf_wave_plan", wave_plan);
+    show(&(const struct row){"caf_wave_samples", wave_samples, {ODD}}, 1);
+    delivery("caf_to_wave", to_wave);
+    show(&(const struct row){"caf_wave_read", wave_read, {PLACES, BAD_WAVE}}, 1);
+}
+
 static void resumes(void) {
     static const order whole = {LENGTH, PLACES, BEYOND}, counted = {PLACES, BEYOND};
 
@@ -463,5 +517,6 @@ int main(void) {
     show(layouts, COUNT(layouts));
     resumes();
     show(writing, COUNT(writing));
+    deliveries();
     return 0;
 }

@@ -130,8 +130,22 @@ static void overviewed(void) {
     HOLDS(pairs[4] == 2 && pairs[5] == 2 && pairs[6] == -3 && pairs[7] == -3);
 }
 
+/* the same film, delivered */
+static void delivered(void) {
+    uint64_t plan[CAF_PLAN_PLACES], length, said[CAF_WAVE_PLACES];
+    uint8_t head[CAF_WAVE_HEAD], wave[CAF_WAVE_HEAD];
+
+    HOLDS(caf_wave_plan(shown, sizeof shown, head, sizeof head, plan, CAF_PLAN_PLACES) == CAF_DONE);
+    HOLDS(plan[CAF_PLAN_HEAD_SIZE] == 68 && plan[CAF_PLAN_START] == FRAMES_AT && plan[CAF_PLAN_PAYLOAD] == 12 && plan[CAF_PLAN_LITTLE] == 0);
+    HOLDS(caf_to_wave(shown, sizeof shown, wave, sizeof wave, &length, 1) == CAF_DONE && length == 80 && memcmp(wave, head, 68) == 0);
+    HOLDS(caf_wave_read(wave, length, said, CAF_WAVE_PLACES) == CAF_DONE);
+    HOLDS(said[CAF_WAVE_RATE] == 48000 && said[CAF_WAVE_CHANNELS] == 2 && said[CAF_WAVE_MASK] == 3);
+    HOLDS(said[CAF_WAVE_START] == 68 && said[CAF_WAVE_PAYLOAD] == 12);
+}
+
 int main(void) {
     overviewed();
+    delivered();
     written();
     read_plainly();
     HOLDS(caf_read_strict(film, LENGTH, out, CAF_STRICT_PLACES) == CAF_DONE);

@@ -10,4 +10,5 @@ pub mod readings;
 pub mod samples;
 pub mod settings;
 pub mod trays;
+pub mod waves;
 pub mod writing;
