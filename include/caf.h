@@ -52,6 +52,7 @@ enum caf_number {
     CAF_WRONG_WIDTH = 27,
     CAF_BAD_TRAY = 28,
     CAF_NOT_FOR_WAVE = 29,
+    CAF_CANNOT_COMPARE = 30,
     CAF_BAD_WAVE = 32,
     CAF_DATA_BEGUN = 33
 };
@@ -364,6 +365,71 @@ enum caf_picture_place {
  * Numbers: 14, 1, 14. */
 uint32_t caf_read_overview(const uint8_t *body, size_t body_len, uint32_t channels,
                            int16_t *out, size_t out_len, uint64_t *said, size_t said_len);
+
+/* ---- two files compared
+ *
+ *     uint64_t counts[CHANNELS], out[CAF_COMPARE_PLACES];
+ *
+ *     number = caf_compare(one, one_len, two, two_len, counts, CHANNELS, out, CAF_COMPARE_PLACES);
+ *
+ * A sample is its 24 bits, by the byte order of its own file. Files are compared by the format, the layout
+ * (the first `chan` before the data) and the payload; other chunks, edit counts and an open end are no
+ * differences. Swapping two files that are compared swaps the two places of the surplus and nothing else.
+ */
+
+/* Places in the array that caf_compare fills. */
+enum caf_compare_place {
+    CAF_COMPARE_FILE = 0, /* refused: 1 or 2, the file that the number is of, or 0 where it is of both */
+    CAF_COMPARE_RATE = 1, /* 1 where the fields differ, else 0; the rate by its bits */
+    CAF_COMPARE_FORMAT_ID = 2,
+    CAF_COMPARE_FLAGS = 3,
+    CAF_COMPARE_BYTES_PER_PACKET = 4,
+    CAF_COMPARE_FRAMES_PER_PACKET = 5,
+    CAF_COMPARE_CHANNELS = 6,
+    CAF_COMPARE_BITS = 7,
+    CAF_COMPARE_LAYOUTS = 8,      /* 1 where the layouts differ */
+    CAF_COMPARE_HAS_FRAME = 9,    /* 1 where a sample of a common frame differs */
+    CAF_COMPARE_FRAME = 10,       /* the first such frame, from 0; 0 without one */
+    CAF_COMPARE_SURPLUS_ONE = 11, /* frames that the first file has beyond the second, and */
+    CAF_COMPARE_SURPLUS_TWO = 12, /* the second beyond the first: one of the two is 0 */
+    CAF_COMPARE_REST = 13,        /* 1 where the bytes after the last whole frame of each differ */
+    CAF_COMPARE_PLACES = 14
+};
+
+/* What differs between two files. Done: writes out[0..13], and to counts for each channel how many of its
+ * samples differ in the frames that both files have; the counts after them keep their contents. Of the
+ * fields only rate, flags and frames per packet can differ then. Refused: writes out[CAF_COMPARE_FILE] and
+ * nothing else. In this order:
+ *   CAF_NO_ROOM         fewer than CAF_COMPARE_PLACES places in `out`: then nothing is written;
+ *   the first file's number of caf_read_strict, or of caf_read_chan with room for any layout;
+ *   the second file's;
+ *   CAF_WRONG_WIDTH     of the first, then of the second: not 24-bit integers, three bytes for each of at
+ *                       least one channel, by the format alone;
+ *   CAF_CANNOT_COMPARE  other counts of channels;
+ *   CAF_NO_ROOM         fewer counts than channels.
+ * It looks at both payloads from one end to the other, at the speed of memory where they are the same.
+ *
+ * Numbers: 14; as caf_read_strict 1, 2, 6, then chunk by chunk 3, 1, 7, 23, 4, 1, 5, 8; 1, 22; 27, 30, 14. */
+uint32_t caf_compare(const uint8_t *one, size_t one_len, const uint8_t *two, size_t two_len,
+                     uint64_t *counts, size_t count_len, uint64_t *out, size_t out_len);
+
+/* Places in the array that caf_compare_samples fills. */
+enum caf_samples_place {
+    CAF_SAMPLES_HAS_FRAME = 0,
+    CAF_SAMPLES_FRAME = 1,
+    CAF_SAMPLES_PLACES = 2
+};
+
+/* The samples of two blocks, each in its own byte order, with as many channels as there are counts: their
+ * common whole frames. Writes every count, and out[0..1] as caf_compare does for a frame; the frame is
+ * counted from the start of the blocks. Blocks of whole frames, one after the other, add up to the whole:
+ * so for a payload that is not held in one piece, or to say how far a comparison has come. With fewer than
+ * CAF_SAMPLES_PLACES places: CAF_NO_ROOM, and writes nothing.
+ *
+ * Numbers: 14. */
+uint32_t caf_compare_samples(const uint8_t *one, size_t one_len, bool one_little, const uint8_t *two,
+                             size_t two_len, bool two_little, uint64_t *counts, size_t count_len,
+                             uint64_t *out, size_t out_len);
 
 /* ---- the writer
  *

@@ -71,6 +71,12 @@ static const struct file wave_files[] = {
     FILE_OF(CAF_WRONG_WIDTH, CAFF DESC_16 DATA("\4")),
     FILE_OF(CAF_NOT_FOR_WAVE, CAFF DESC DATA("\4")),
 };
+/* of a comparison with the good one */
+#define DESC_MONO "desc" ZEROS "\x20" "\x40\xe7\x70\0\0\0\0\0" "lpcm\0\0\0\0\0\0\0\3\0\0\0\1\0\0\0\1\0\0\0\x18"
+static const struct file compare_files[] = {
+    FILE_OF(CAF_WRONG_WIDTH, CAFF DESC_16 DATA("\4")),
+    FILE_OF(CAF_CANNOT_COMPARE, CAFF DESC_MONO DATA("\4")),
+};
 static const struct file stereo[] = {FILE_OF(CAF_DONE, CAFF DESC CHAN("\0\x65\0\2", "\0") DATA("\4"))};
 static const struct file good[] = {FILE_OF(CAF_DONE, CAFF DESC DATA("\4"))};
 

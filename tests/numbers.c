@@ -312,6 +312,20 @@ static uint32_t resume_counted(const struct file *file, unsigned faults) {
     return caf_resume_counted(buf, ROOM, faults & BEYOND ? ROOM + 1 : file->len, 8, out, places(faults, CAF_RESUME_COUNTED_PLACES));
 }
 
+/* ---- two files compared */
+
+static uint32_t compare(const struct file *file, unsigned faults) {
+    uint64_t counts[2], told[CAF_COMPARE_PLACES];
+
+    return caf_compare(contents(file), file->len, contents(good), good->len, counts, faults & SMALL ? 1 : 2, told, places(faults, CAF_COMPARE_PLACES));
+}
+
+static uint32_t compare_samples(unsigned faults) {
+    uint64_t counts[2];
+
+    return caf_compare_samples(bytes, 6, false, bytes, 6, true, counts, 2, out, places(faults, CAF_SAMPLES_PLACES));
+}
+
 /* ---- WAVE: a film of no frames, whose WAVE file is its header */
 
 enum { RIFF_HEAD = 68 };
@@ -467,6 +481,18 @@ static void deliveries(void) {
     show(&(const struct row){"caf_wave_read", wave_read, {PLACES, BAD_WAVE}}, 1);
 }
 
+static void comparisons(void) {
+    static const order room_first = {PLACES};
+
+    begin_reading("caf_compare", compare, room_first);
+    show_files(compare, room_first, strict_files, COUNT(strict_files));
+    show_files(compare, room_first, layout_files, COUNT(layout_files));
+    show_files(compare, room_first, compare_files, COUNT(compare_files));
+    HOLDS(compare(good, SMALL) == CAF_NO_ROOM);
+    printf(" %u\n", CAF_NO_ROOM);
+    show(&(const struct row){"caf_compare_samples", compare_samples, {PLACES}}, 1);
+}
+
 static void resumes(void) {
     static const order whole = {LENGTH, PLACES, BEYOND}, counted = {PLACES, BEYOND};
 
@@ -489,7 +515,6 @@ static const struct row layouts[] = {
     {"caf_read_chan", read_chan, {PLACES, SHORT, LAYOUT, SMALL}},
     {"caf_find_overview", find_overview, {PLACES}},
     {"caf_read_overview", read_overview, {PLACES, SHORT, SMALL}},
-    {"caf_new", new, {LENGTH}},
 };
 static const struct row writing[] = {
     {"caf_set_format", set_format, {UNSOUND, HEADER, NOT_A_RATE, PACKET}},
@@ -515,6 +540,8 @@ int main(void) {
     readings();
     show(trays, COUNT(trays));
     show(layouts, COUNT(layouts));
+    comparisons();
+    show(&(const struct row){"caf_new", new, {LENGTH}}, 1);
     resumes();
     show(writing, COUNT(writing));
     deliveries();

@@ -143,8 +143,30 @@ static void delivered(void) {
     HOLDS(said[CAF_WAVE_START] == 68 && said[CAF_WAVE_PAYLOAD] == 12);
 }
 
+/* and beside another one, of another rate and layout, open, with one frame, whose right sample is another, and a byte */
+static void compared(void) {
+    uint64_t told[CAF_COMPARE_PLACES], counts[2], first[CAF_SAMPLES_PLACES];
+    uint8_t other[FRAMES_AT + 7];
+
+    memcpy(other, shown, sizeof other);
+    other[26] ^= 1;
+    other[65] = CAF_TAG_MATRIX_STEREO >> 16;
+    memset(other + FRAMES_AT - 12, 0xff, 8);
+    other[FRAMES_AT + 5] ^= 1;
+    HOLDS(caf_compare(shown, sizeof shown, other, sizeof other, counts, 2, told, CAF_COMPARE_PLACES) == CAF_DONE);
+    HOLDS(told[CAF_COMPARE_FILE] == 0 && told[CAF_COMPARE_RATE] == 1 && told[CAF_COMPARE_FORMAT_ID] == 0 && told[CAF_COMPARE_FLAGS] == 0);
+    HOLDS(told[CAF_COMPARE_BYTES_PER_PACKET] == 0 && told[CAF_COMPARE_FRAMES_PER_PACKET] == 0);
+    HOLDS(told[CAF_COMPARE_CHANNELS] == 0 && told[CAF_COMPARE_BITS] == 0 && told[CAF_COMPARE_LAYOUTS] == 1);
+    HOLDS(told[CAF_COMPARE_HAS_FRAME] == 1 && told[CAF_COMPARE_FRAME] == 0 && counts[0] == 0 && counts[1] == 1);
+    HOLDS(told[CAF_COMPARE_SURPLUS_ONE] == 1 && told[CAF_COMPARE_SURPLUS_TWO] == 0 && told[CAF_COMPARE_REST] == 1);
+    HOLDS(caf_compare(shown, sizeof shown, other, 7, counts, 2, told, CAF_COMPARE_PLACES) == CAF_CUT_SHORT && told[CAF_COMPARE_FILE] == 2);
+    HOLDS(caf_compare_samples(shown + FRAMES_AT, 12, false, film, 12, true, counts, 1, first, CAF_SAMPLES_PLACES) == CAF_DONE);
+    HOLDS(first[CAF_SAMPLES_HAS_FRAME] == 1 && first[CAF_SAMPLES_FRAME] == 0 && counts[0] == 4);
+}
+
 int main(void) {
     overviewed();
+    compared();
     delivered();
     written();
     read_plainly();

@@ -57,6 +57,7 @@ static const uint32_t first[1] = {3}, last[8] = {3, 1, 2, 5, 6, 33, 34, 9}, none
 /* a row of the table, and none */
 static const uint32_t stereo[2] = {1, 2}, apart[2] = {1, 3};
 static uint8_t wave[ROOM];
+static uint64_t counts[8], compared[CAF_COMPARE_PLACES];
 static uint64_t told[CAF_STRICT_PLACES], wave_len;
 
 #define LENGTH ((size_t)record[CAF_RECORD_FILE_LEN])
@@ -179,6 +180,8 @@ static uint32_t find_chan(void) { return caf_find_chan(buf, LENGTH, out, CAF_CHA
 static uint32_t read_chan(void) { return caf_read_chan(buf + place[CAF_CHAN_START], place[CAF_CHAN_SIZE], 8, descriptions, 8 * CAF_DESCRIPTION, out, CAF_SAID_PLACES); }
 static uint32_t find_overview(void) { return caf_find_overview(buf, LENGTH, out, CAF_OVERVIEW_PLACES); }
 static uint32_t read_overview(void) { return caf_read_overview(buf + place[CAF_OVERVIEW_START], place[CAF_OVERVIEW_SIZE], 8, pairs, 2 * 8, out, CAF_PICTURE_PLACES); }
+static uint32_t compare(void) { return caf_compare(buf, LENGTH, buf, LENGTH, counts, 8, compared, CAF_COMPARE_PLACES); }
+static uint32_t compare_samples(void) { return caf_compare_samples(data, 12, false, buf, 12, true, counts, 2, out, CAF_SAMPLES_PLACES); }
 static uint32_t new(void) { return caf_new(record, CAF_RECORD); }
 static uint32_t resume(void) { return caf_resume(buf, ROOM, LENGTH, record, CAF_RECORD, out, 1); }
 static uint32_t resume_counted(void) { return caf_resume_counted(buf, ROOM, LENGTH, 8, out, CAF_RESUME_COUNTED_PLACES); }
@@ -235,6 +238,9 @@ static const struct row {
     {"caf_read_chan", begun_described, read_chan},
     {"caf_find_overview", shown, find_overview},
     {"caf_read_overview", shown, read_overview},
+    {"caf_compare", closed, compare},
+    {"caf_compare", begun_described, compare},
+    {"caf_compare_samples", closed, compare_samples},
     {"caf_new", fresh, new},
     {"caf_resume", filled, resume},
     {"caf_resume_counted", filled, resume_counted},

@@ -3,6 +3,7 @@
 pub mod blocks;
 pub mod chan;
 pub mod counted;
+pub mod differences;
 pub mod layouts;
 pub mod made;
 pub mod overviews;
