@@ -53,6 +53,7 @@ enum caf_number {
     CAF_BAD_TRAY = 28,
     CAF_NOT_FOR_WAVE = 29,
     CAF_CANNOT_COMPARE = 30,
+    CAF_LITTLE_RETIRED = 31,
     CAF_BAD_WAVE = 32,
     CAF_DATA_BEGUN = 33
 };
@@ -455,7 +456,7 @@ enum caf_record_place {
     CAF_RECORD_FRAMES_PER_PACKET = 5,
     CAF_RECORD_CHANNELS = 6,
     CAF_RECORD_BITS = 7,
-    CAF_RECORD_ENDIANNESS = 8,   /* 0 big, 1 little */
+    CAF_RECORD_ENDIANNESS = 8,   /* 0 big, 1 little, which only a resumed file is */
     CAF_RECORD_LAYOUT_KIND = 9,  /* 0 no layout, 1 a tag, 2 descriptions */
     CAF_RECORD_LAYOUT_TAG = 10,  /* 32 bits; not looked at unless the kind is 1 */
     CAF_RECORD_LABEL_COUNT = 11,
@@ -513,14 +514,16 @@ uint32_t caf_resume_counted(uint8_t *buf, size_t buf_len, uint64_t file_len, uin
 /* Settings: they write to the record alone. Once a header stands, also that of a resumed file, those of
  * format and layout are refused: CAF_HEADER_ALREADY. A later setting replaces an earlier one. */
 
-/* Sets the format: id `lpcm`, one frame per packet, rate, channels and bits as given, flags and byte
- * order by the last two. The layout stays as it is.
+/* Sets the format: id `lpcm`, one frame per packet, rate, channels and bits as given, and the flag of
+ * floating point. The layout stays as it is. Little-endian formats are no longer set:
+ * CAF_LITTLE_RETIRED. A little-endian file that is there can be resumed, and then takes samples in its
+ * own order.
  *
  * Bytes per packet of the format are the bytes that hold `bits` (bits / 8, rounded up) times channels:
  * 20 bits and 2 channels make 6. From 2^32 on: CAF_PACKET_TOO_BIG. Samples are packed in three bytes
  * whatever `bits` says, so that a packet is a frame of them where bits is 17 to 24.
  *
- * Numbers: 19, 12, 5, 15. */
+ * Numbers: 19, 12, 31, 5, 15. */
 uint32_t caf_set_format(uint64_t *record, size_t record_len,
                         double rate, uint32_t channels, uint32_t bits, bool is_float, bool little_endian);
 

@@ -40,7 +40,8 @@ enum fault {
     LAYOUT = 1 << 14,
     SMALL = 1 << 15, /* no room for the result */
     BEYOND = 1 << 16, /* a file that is longer than its buffer */
-    TRAY = 1 << 17
+    TRAY = 1 << 17,
+    LITTLE = 1 << 18 /* a little-endian format */
 };
 
 static uint32_t number_of(enum fault fault) {
@@ -68,6 +69,7 @@ static uint32_t number_of(enum fault fault) {
     case SHORT: return CAF_CUT_SHORT;
     case LAYOUT: return CAF_BAD_LAYOUT;
     case TRAY: return CAF_BAD_TRAY;
+    case LITTLE: return CAF_LITTLE_RETIRED;
     }
     return UINT32_MAX;
 }
@@ -131,7 +133,7 @@ static uint32_t channels(unsigned faults) { return faults & MANY ? CHANNELS : CH
 
 static uint32_t set_format(unsigned faults) {
     before_header(faults);
-    return caf_set_format(record, CAF_RECORD, rate(faults), 8, bits(faults), false, false);
+    return caf_set_format(record, CAF_RECORD, rate(faults), 8, bits(faults), false, faults & LITTLE);
 }
 
 static uint32_t set_layout_tag(unsigned faults) {
@@ -517,7 +519,7 @@ static const struct row layouts[] = {
     {"caf_read_overview", read_overview, {PLACES, SHORT, SMALL}},
 };
 static const struct row writing[] = {
-    {"caf_set_format", set_format, {UNSOUND, HEADER, NOT_A_RATE, PACKET}},
+    {"caf_set_format", set_format, {UNSOUND, HEADER, LITTLE, NOT_A_RATE, PACKET}},
     {"caf_set_layout_tag", set_layout_tag, {UNSOUND, HEADER, TAG}},
     {"caf_set_layout_for_labels", set_layout_for_labels, {UNSOUND, HEADER, MANY, LABEL}},
     {"caf_configure_format", configure_format, {UNSOUND, HEADER, NOT_A_RATE, PACKET, MANY, LABEL}},

@@ -1,17 +1,20 @@
 /* Every place that caf.h names, by a film whose numbers all differ: in the writer's record, in both readings, in the feeding record and in a
- * resumed record. */
+ * resumed record. The film is written big-endian and made into a little-endian one, which no call begins, before it is read. */
 #include "caf_names.h"
 #include "holds.h"
 
-/* 44100 Hz, five channels of 20 bits, floating point and little-endian: three bytes a sample, 15 a packet */
+/* 44100 Hz, five channels of 20 bits, floating point: three bytes a sample, 15 a packet */
 #define RATE 44100.0
-enum { CHANNELS = 5, BITS = 20, PACKET = 15, FLAGS = 3, LPCM = 0x6C70636D };
+enum { CHANNELS = 5, BITS = 20, PACKET = 15, LPCM = 0x6C70636D };
+/* bit 0 says floating point, bit 1 little-endian; the last byte of the flags in the file */
+enum { FLOAT = 1, LITTLE = 2, FLAGS_AT = 35 };
 /* five described channels, and 31 bytes of audio: two frames and a byte */
-enum { START = 92 + 20 * CHANNELS, SIZE = START - 12, PAYLOAD = 31, LENGTH = START + PAYLOAD, FRAMES = 2, CHUNKS = 3 };
+enum { START = 92 + 20 * CHANNELS, SIZE = START - 12, PAYLOAD = 31, LENGTH = START + PAYLOAD, FRAMES = 2, CHUNKS = 3, SAMPLE = 3 };
 
 static const uint32_t labels[CHANNELS] = {CAF_LABEL_MONO, CAF_LABEL_LEFT_WIDE, CAF_LABEL_XYX, CAF_LABEL_UNKNOWN, CAF_LABEL_NARRATION};
 static uint64_t record[CAF_RECORD], out[CAF_STRICT_PLACES];
-static uint8_t film[LENGTH];
+static uint8_t film[LENGTH + SAMPLE];
+static uint64_t flags = FLOAT;
 
 /* The seven numbers of the format stand together, in one order, wherever they stand. */
 #define TOGETHER(places)                                                                                                     \
@@ -28,12 +31,12 @@ static void format_at(const uint64_t *place) {
     uint64_t rate_bits;
 
     memcpy(&rate_bits, &rate, sizeof rate_bits);
-    HOLDS(place[0] == rate_bits && place[1] == LPCM && place[2] == FLAGS && place[3] == PACKET);
+    HOLDS(place[0] == rate_bits && place[1] == LPCM && place[2] == flags && place[3] == PACKET);
     HOLDS(place[4] == 1 && place[5] == CHANNELS && place[6] == BITS);
 }
 
 static void header_places(uint64_t data_count) {
-    HOLDS(record[CAF_RECORD_HAS_FORMAT] == 1 && record[CAF_RECORD_ENDIANNESS] == 1 && record[CAF_RECORD_HAS_HEADER] == 1);
+    HOLDS(record[CAF_RECORD_HAS_FORMAT] == 1 && record[CAF_RECORD_ENDIANNESS] == flags / LITTLE && record[CAF_RECORD_HAS_HEADER] == 1);
     format_at(record + CAF_RECORD_RATE);
     HOLDS(record[CAF_RECORD_SIZE_POSITION] == SIZE && record[CAF_RECORD_DATA_START] == START);
     HOLDS(record[CAF_RECORD_DATA_COUNT] == data_count && record[CAF_RECORD_FILE_LEN] == LENGTH);
@@ -46,7 +49,7 @@ static void written(void) {
     HOLDS(caf_new(record, CAF_RECORD) == CAF_DONE && record[CAF_RECORD_LAYOUT_KIND] == 0);
     HOLDS(caf_set_layout_tag(record, CAF_RECORD, CAF_TAG_CUBE) == CAF_DONE);
     HOLDS(record[CAF_RECORD_LAYOUT_KIND] == 1 && record[CAF_RECORD_LAYOUT_TAG] == CAF_TAG_CUBE);
-    HOLDS(caf_set_format(record, CAF_RECORD, RATE, CHANNELS, BITS, true, true) == CAF_DONE);
+    HOLDS(caf_set_format(record, CAF_RECORD, RATE, CHANNELS, BITS, true, false) == CAF_DONE);
     HOLDS(caf_set_layout_for_labels(record, CAF_RECORD, labels, CHANNELS, CHANNELS) == CAF_DONE);
     HOLDS(record[CAF_RECORD_LAYOUT_KIND] == 2 && record[CAF_RECORD_LABEL_COUNT] == CHANNELS);
     for (i = 0; i < CHANNELS; i++)
@@ -57,6 +60,13 @@ static void written(void) {
     header_places(PAYLOAD);
     HOLDS(caf_stats(record, CAF_RECORD, out, CAF_STATS_PLACES) == CAF_DONE);
     HOLDS(out[CAF_STATS_DATA_COUNT] == PAYLOAD && out[CAF_STATS_FINISHED] == 1);
+}
+
+/* as an old film has it */
+static void made_little(void) {
+    HOLDS(film[FLAGS_AT] == flags);
+    flags |= LITTLE;
+    film[FLAGS_AT] = (uint8_t)flags;
 }
 
 static void read_plainly(void) {
@@ -99,6 +109,14 @@ static void resumed(void) {
     HOLDS(record[CAF_RECORD_LAYOUT_KIND] == 0 && record[CAF_RECORD_LABEL_COUNT] == 0 && record[CAF_RECORD_FINISHED] == 0);
     HOLDS(caf_resume_counted(film, LENGTH, LENGTH, 5, out, CAF_RESUME_COUNTED_PLACES) == CAF_DONE);
     HOLDS(out[CAF_RESUME_COUNTED_STORES] == 5 && out[CAF_RESUME_COUNTED_FILE_LEN] == LENGTH && out[CAF_RESUME_COUNTED_CHUNKS] == CHUNKS);
+}
+
+/* Samples follow in the order of the file. */
+static void appended(void) {
+    static const int32_t one = 1;
+
+    HOLDS(caf_write_samples(record, CAF_RECORD, film, LENGTH + SAMPLE, &one, 1) == CAF_DONE && record[CAF_RECORD_FILE_LEN] == LENGTH + SAMPLE);
+    HOLDS(film[LENGTH] == 1 && film[LENGTH + 1] == 0 && film[LENGTH + 2] == 0);
 }
 
 /* ---- a film of its own: stereo, 24 bits, two frames, edit count 7, and an overview with a pair for each of them */
@@ -169,11 +187,13 @@ int main(void) {
     compared();
     delivered();
     written();
+    made_little();
     read_plainly();
     HOLDS(caf_read_strict(film, LENGTH, out, CAF_STRICT_PLACES) == CAF_DONE);
     strict_places();
     fed();
     resumed();
+    appended();
     printf("places: %lu checks hold\n", checks);
     return 0;
 }

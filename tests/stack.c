@@ -185,7 +185,7 @@ static uint32_t compare_samples(void) { return caf_compare_samples(data, 12, fal
 static uint32_t new(void) { return caf_new(record, CAF_RECORD); }
 static uint32_t resume(void) { return caf_resume(buf, ROOM, LENGTH, record, CAF_RECORD, out, 1); }
 static uint32_t resume_counted(void) { return caf_resume_counted(buf, ROOM, LENGTH, 8, out, CAF_RESUME_COUNTED_PLACES); }
-static uint32_t set_format(void) { return caf_set_format(record, CAF_RECORD, 48000.0, 8, 24, false, true); }
+static uint32_t set_format(void) { return caf_set_format(record, CAF_RECORD, 48000.0, 8, 24, true, false); }
 static uint32_t set_tag(void) { return caf_set_layout_tag(record, CAF_RECORD, 6619138); }
 static uint32_t labels_first(void) { return caf_set_layout_for_labels(record, CAF_RECORD, first, 1, 1); }
 static uint32_t labels_last(void) { return caf_set_layout_for_labels(record, CAF_RECORD, last, 8, 8); }
