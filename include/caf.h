@@ -51,6 +51,10 @@ enum caf_number {
     CAF_NO_GROUP = 26,
     CAF_WRONG_WIDTH = 27,
     CAF_BAD_TRAY = 28,
+    CAF_NOT_FOR_WAVE = 29,
+    CAF_CANNOT_COMPARE = 30,
+    CAF_LITTLE_RETIRED = 31,
+    CAF_BAD_WAVE = 32,
     CAF_DATA_BEGUN = 33
 };
 
@@ -363,6 +367,71 @@ enum caf_picture_place {
 uint32_t caf_read_overview(const uint8_t *body, size_t body_len, uint32_t channels,
                            int16_t *out, size_t out_len, uint64_t *said, size_t said_len);
 
+/* ---- two files compared
+ *
+ *     uint64_t counts[CHANNELS], out[CAF_COMPARE_PLACES];
+ *
+ *     number = caf_compare(one, one_len, two, two_len, counts, CHANNELS, out, CAF_COMPARE_PLACES);
+ *
+ * A sample is its 24 bits, by the byte order of its own file. Files are compared by the format, the layout
+ * (the first `chan` before the data) and the payload; other chunks, edit counts and an open end are no
+ * differences. Swapping two files that are compared swaps the two places of the surplus and nothing else.
+ */
+
+/* Places in the array that caf_compare fills. */
+enum caf_compare_place {
+    CAF_COMPARE_FILE = 0, /* refused: 1 or 2, the file that the number is of, or 0 where it is of both */
+    CAF_COMPARE_RATE = 1, /* 1 where the fields differ, else 0; the rate by its bits */
+    CAF_COMPARE_FORMAT_ID = 2,
+    CAF_COMPARE_FLAGS = 3,
+    CAF_COMPARE_BYTES_PER_PACKET = 4,
+    CAF_COMPARE_FRAMES_PER_PACKET = 5,
+    CAF_COMPARE_CHANNELS = 6,
+    CAF_COMPARE_BITS = 7,
+    CAF_COMPARE_LAYOUTS = 8,      /* 1 where the layouts differ */
+    CAF_COMPARE_HAS_FRAME = 9,    /* 1 where a sample of a common frame differs */
+    CAF_COMPARE_FRAME = 10,       /* the first such frame, from 0; 0 without one */
+    CAF_COMPARE_SURPLUS_ONE = 11, /* frames that the first file has beyond the second, and */
+    CAF_COMPARE_SURPLUS_TWO = 12, /* the second beyond the first: one of the two is 0 */
+    CAF_COMPARE_REST = 13,        /* 1 where the bytes after the last whole frame of each differ */
+    CAF_COMPARE_PLACES = 14
+};
+
+/* What differs between two files. Done: writes out[0..13], and to counts for each channel how many of its
+ * samples differ in the frames that both files have; the counts after them keep their contents. Of the
+ * fields only rate, flags and frames per packet can differ then. Refused: writes out[CAF_COMPARE_FILE] and
+ * nothing else. In this order:
+ *   CAF_NO_ROOM         fewer than CAF_COMPARE_PLACES places in `out`: then nothing is written;
+ *   the first file's number of caf_read_strict, or of caf_read_chan with room for any layout;
+ *   the second file's;
+ *   CAF_WRONG_WIDTH     of the first, then of the second: not 24-bit integers, three bytes for each of at
+ *                       least one channel, by the format alone;
+ *   CAF_CANNOT_COMPARE  other counts of channels;
+ *   CAF_NO_ROOM         fewer counts than channels.
+ * It looks at both payloads from one end to the other, at the speed of memory where they are the same.
+ *
+ * Numbers: 14; as caf_read_strict 1, 2, 6, then chunk by chunk 3, 1, 7, 23, 4, 1, 5, 8; 1, 22; 27, 30, 14. */
+uint32_t caf_compare(const uint8_t *one, size_t one_len, const uint8_t *two, size_t two_len,
+                     uint64_t *counts, size_t count_len, uint64_t *out, size_t out_len);
+
+/* Places in the array that caf_compare_samples fills. */
+enum caf_samples_place {
+    CAF_SAMPLES_HAS_FRAME = 0,
+    CAF_SAMPLES_FRAME = 1,
+    CAF_SAMPLES_PLACES = 2
+};
+
+/* The samples of two blocks, each in its own byte order, with as many channels as there are counts: their
+ * common whole frames. Writes every count, and out[0..1] as caf_compare does for a frame; the frame is
+ * counted from the start of the blocks. Blocks of whole frames, one after the other, add up to the whole:
+ * so for a payload that is not held in one piece, or to say how far a comparison has come. With fewer than
+ * CAF_SAMPLES_PLACES places: CAF_NO_ROOM, and writes nothing.
+ *
+ * Numbers: 14. */
+uint32_t caf_compare_samples(const uint8_t *one, size_t one_len, bool one_little, const uint8_t *two,
+                             size_t two_len, bool two_little, uint64_t *counts, size_t count_len,
+                             uint64_t *out, size_t out_len);
+
 /* ---- the writer
  *
  * The caller keeps the writer record, CAF_RECORD numbers, and the buffer that the file is written to.
@@ -392,7 +461,7 @@ enum caf_record_place {
     CAF_RECORD_FRAMES_PER_PACKET = 5,
     CAF_RECORD_CHANNELS = 6,
     CAF_RECORD_BITS = 7,
-    CAF_RECORD_ENDIANNESS = 8,   /* 0 big, 1 little */
+    CAF_RECORD_ENDIANNESS = 8,   /* 0 big, 1 little, which only a resumed file is */
     CAF_RECORD_LAYOUT_KIND = 9,  /* 0 no layout, 1 a tag, 2 descriptions */
     CAF_RECORD_LAYOUT_TAG = 10,  /* 32 bits; not looked at unless the kind is 1 */
     CAF_RECORD_LABEL_COUNT = 11,
@@ -451,14 +520,16 @@ uint32_t caf_resume_counted(uint8_t *buf, size_t buf_len, uint64_t file_len, uin
 /* Settings: they write to the record alone. Once a header stands, also that of a resumed file, those of
  * format and layout are refused: CAF_HEADER_ALREADY. A later setting replaces an earlier one. */
 
-/* Sets the format: id `lpcm`, one frame per packet, rate, channels and bits as given, flags and byte
- * order by the last two. The layout stays as it is.
+/* Sets the format: id `lpcm`, one frame per packet, rate, channels and bits as given, and the flag of
+ * floating point. The layout stays as it is. Little-endian formats are no longer set:
+ * CAF_LITTLE_RETIRED. A little-endian file that is there can be resumed, and then takes samples in its
+ * own order.
  *
  * Bytes per packet of the format are the bytes that hold `bits` (bits / 8, rounded up) times channels:
  * 20 bits and 2 channels make 6. From 2^32 on: CAF_PACKET_TOO_BIG. Samples are packed in three bytes
  * whatever `bits` says, so that a packet is a frame of them where bits is 17 to 24.
  *
- * Numbers: 19, 12, 5, 15. */
+ * Numbers: 19, 12, 31, 5, 15. */
 uint32_t caf_set_format(uint64_t *record, size_t record_len,
                         double rate, uint32_t channels, uint32_t bits, bool is_float, bool little_endian);
 
@@ -580,6 +651,92 @@ uint32_t caf_pack_24(const int32_t *samples, size_t sample_count, bool little_en
  * Numbers: 20, 14. */
 uint32_t caf_unpack_24(const uint8_t *bytes, size_t byte_count, bool little_endian,
                        int32_t *out, size_t out_len);
+
+/* ---- WAVE
+ *
+ * A closed CAF file of 24-bit integers is delivered as a WAVE file: little-endian samples, an extensible
+ * format chunk with a channel mask, a zero byte after odd data; RF64 with a `ds64` chunk where the RIFF
+ * size would pass 4294967294. Channels keep their order, so that only labels which ascend, from 1 to 18,
+ * can be delivered: label n is bit n - 1 of the mask.
+ *
+ * A film of any length goes through a block:
+ *
+ *     number = caf_wave_plan(file, file_len, head, CAF_WAVE_HEAD, plan, CAF_PLAN_PLACES);
+ *     write(fd, head, plan[CAF_PLAN_HEAD_SIZE]);
+ *     for (at = 0; at < plan[CAF_PLAN_PAYLOAD]; at += n) {
+ *         n = ... ; (a multiple of 3, at most what is left)
+ *         memcpy(block, file + plan[CAF_PLAN_START] + at, n);
+ *         caf_wave_samples(block, n, plan[CAF_PLAN_LITTLE]);
+ *         write(fd, block, n);
+ *     }
+ *     if (plan[CAF_PLAN_PAYLOAD] % 2) write(fd, "", 1);
+ *
+ * However it is cut, the file is the one that caf_to_wave makes. */
+
+/* Bytes of the longest header, that of RF64. RIFF has 68. */
+enum { CAF_WAVE_HEAD = 104 };
+
+/* The header of a WAVE file with this format, labels and payload. The format stands in info[1..7], as
+ * caf_read_strict gives it; of the six numbers after the rate the low 32 bits are looked at. Done:
+ * writes the header to head and its size, 68 or 104, to size[0]. Refused: writes nothing. In this order:
+ *   CAF_NO_ROOM       no place for the size;
+ *   CAF_WRONG_WIDTH   not `lpcm` of 24-bit integers, three bytes for each of at least one channel, or a
+ *                     payload that is not whole frames;
+ *   CAF_NOT_FOR_WAVE  labels that are not one for each channel, from 1 to 18 and ascending; a rate that is
+ *                     no whole number from 1 to 4294967295; 3 * channels * rate from 2^32 on; a size from 2^64 on;
+ *   CAF_NO_ROOM       a header that is longer than head_len.
+ *
+ * Numbers: 14, 27, 29, 14. */
+uint32_t caf_wave_header(const uint64_t *info, size_t info_len, const uint32_t *labels, size_t label_count,
+                         uint64_t payload, uint8_t *head, size_t head_len, uint64_t *size, size_t size_len);
+
+/* Places in the array that caf_wave_plan fills. */
+enum caf_plan_place {
+    CAF_PLAN_HEAD_SIZE = 0, /* bytes of the header: 68 or 104 */
+    CAF_PLAN_START = 1,     /* where the samples begin in the CAF file */
+    CAF_PLAN_PAYLOAD = 2,   /* how many bytes they are */
+    CAF_PLAN_LITTLE = 3,    /* 1 where their low byte stands first, else 0 */
+    CAF_PLAN_PLACES = 4
+};
+
+/* The header of the WAVE file that a CAF file makes. It looks at chunk headers, `desc` and `chan` and at no
+ * sample, so that a film of any length can be mapped. Done: writes the header to head and out[0..3].
+ * Refused: writes nothing.
+ *
+ * Numbers: 14; as caf_read_strict 1, 2, 6, then chunk by chunk 3, 1, 7, 23, 4, 1, 5, 8; 1, 22; 25, 27, 29, 14. */
+uint32_t caf_wave_plan(const uint8_t *file, size_t file_len, uint8_t *head, size_t head_len,
+                       uint64_t *out, size_t out_len);
+
+/* Samples turned where they stand: from the byte order that they are in to low byte first.
+ * CAF_ODD_LENGTH where 3 does not divide byte_count: changes nothing.
+ *
+ * Numbers: 20. */
+uint32_t caf_wave_samples(uint8_t *bytes, size_t byte_count, bool little_endian);
+
+/* The whole WAVE file that a CAF file makes, from wave[0] on, and its length to length[0]. Bytes after it
+ * keep their contents. Refused: writes nothing. `wave` needs plan[CAF_PLAN_HEAD_SIZE] +
+ * plan[CAF_PLAN_PAYLOAD] bytes, and one more for an odd payload.
+ *
+ * Numbers: 14; as caf_wave_plan 1, 2, 6, then chunk by chunk 3, 1, 7, 23, 4, 1, 5, 8; 1, 22; 25, 27, 29, 14. */
+uint32_t caf_to_wave(const uint8_t *file, size_t file_len, uint8_t *wave, size_t wave_len,
+                     uint64_t *length, size_t length_len);
+
+/* Places in the array that caf_wave_read fills. */
+enum caf_wave_place {
+    CAF_WAVE_RATE = 0, /* in Hz */
+    CAF_WAVE_CHANNELS = 1,
+    CAF_WAVE_MASK = 2,
+    CAF_WAVE_START = 3,   /* where the samples begin: 68, or 104 for RF64 */
+    CAF_WAVE_PAYLOAD = 4, /* bytes of audio */
+    CAF_WAVE_PLACES = 5
+};
+
+/* What a WAVE file says that a conversion makes. Every other file is CAF_BAD_WAVE: other chunks, another width,
+ * RF64 where RIFF would do, a pad byte that is not zero, a byte too many or too few. It looks at the
+ * header and the pad byte. Done: writes out[0..4]. Refused: writes nothing.
+ *
+ * Numbers: 14, 32. */
+uint32_t caf_wave_read(const uint8_t *file, size_t file_len, uint64_t *out, size_t out_len);
 
 #ifdef __cplusplus
 }

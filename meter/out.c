@@ -92,6 +92,12 @@ static FILE *open_part(int fd) {
     return file;
 }
 
+bool out_is(const char *name, const char *other) {
+    struct stat a, b;
+
+    return stat(name, &a) == 0 && stat(other, &b) == 0 && a.st_dev == b.st_dev && a.st_ino == b.st_ino;
+}
+
 const char *out_begin(struct out *out, const char *name, bool force) {
     const char *fault = standing(name, force);
     int fd;

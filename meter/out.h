@@ -14,6 +14,9 @@ struct out {
     bool force;
 };
 
+/* Whether what stands under the name is this other file, which is still to be read. */
+bool out_is(const char *name, const char *other);
+
 /* Begins the file, or says why not. One that is there is replaced with `force` alone, and only where it is a
  * file: no folder, no device, and no link. */
 const char *out_begin(struct out *out, const char *name, bool force);

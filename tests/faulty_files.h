@@ -58,6 +58,26 @@ static const struct file end_files[] = {
     FILE_OF(CAF_CUT_SHORT, CAFF DESC "data"),
     FILE_OF(CAF_DATA_PAST_END, CAFF DESC DATA("\xff")),
 };
+/* what is said of a delivery: by the strict reading's layout, open, of another width, without labels */
+#define DESC_16 "desc" ZEROS "\x20" "\x40\xe7\x70\0\0\0\0\0" "lpcm\0\0\0\0\0\0\0\4\0\0\0\1\0\0\0\2\0\0\0\x10"
+#define CHAN(tag, count) "chan" ZEROS "\x0c" tag "\0\0\0\0" "\0\0\0" count
+#define OPEN_DATA "data\xff\xff\xff\xff\xff\xff\xff\xff\0\0\0\0"
+static const struct file layout_files[] = {
+    FILE_OF(CAF_CUT_SHORT, CAFF DESC "chan" ZEROS "\0" OPEN_DATA),
+    FILE_OF(CAF_BAD_LAYOUT, CAFF DESC CHAN("\0\0\0\0", "\1") OPEN_DATA),
+};
+static const struct file wave_files[] = {
+    FILE_OF(CAF_NOT_CLOSED, CAFF DESC_16 OPEN_DATA),
+    FILE_OF(CAF_WRONG_WIDTH, CAFF DESC_16 DATA("\4")),
+    FILE_OF(CAF_NOT_FOR_WAVE, CAFF DESC DATA("\4")),
+};
+/* of a comparison with the good one */
+#define DESC_MONO "desc" ZEROS "\x20" "\x40\xe7\x70\0\0\0\0\0" "lpcm\0\0\0\0\0\0\0\3\0\0\0\1\0\0\0\1\0\0\0\x18"
+static const struct file compare_files[] = {
+    FILE_OF(CAF_WRONG_WIDTH, CAFF DESC_16 DATA("\4")),
+    FILE_OF(CAF_CANNOT_COMPARE, CAFF DESC_MONO DATA("\4")),
+};
+static const struct file stereo[] = {FILE_OF(CAF_DONE, CAFF DESC CHAN("\0\x65\0\2", "\0") DATA("\4"))};
 static const struct file good[] = {FILE_OF(CAF_DONE, CAFF DESC DATA("\4"))};
 
 /* Films without a fault, and what is read of them. A packet has 6 bytes. */

@@ -30,6 +30,8 @@ enum fault {
     TAILED = 1 << 22,
     GROUP = 1 << 23, /* of no frames */
     WIDTH = 1 << 24, /* of a sample */
+    NO_WAVE = 1 << 25, /* can say it */
+    BAD_WAVE = 1 << 26,
     TAG = 1 << 9,
     MANY = 1 << 10, /* labels */
     LABEL = 1 << 11,
@@ -38,7 +40,8 @@ enum fault {
     LAYOUT = 1 << 14,
     SMALL = 1 << 15, /* no room for the result */
     BEYOND = 1 << 16, /* a file that is longer than its buffer */
-    TRAY = 1 << 17
+    TRAY = 1 << 17,
+    LITTLE = 1 << 18 /* a little-endian format */
 };
 
 static uint32_t number_of(enum fault fault) {
@@ -57,6 +60,8 @@ static uint32_t number_of(enum fault fault) {
     case TAILED: return CAF_TAIL_AFTER_DATA;
     case GROUP: return CAF_NO_GROUP;
     case WIDTH: return CAF_WRONG_WIDTH;
+    case NO_WAVE: return CAF_NOT_FOR_WAVE;
+    case BAD_WAVE: return CAF_BAD_WAVE;
     case TAG: return CAF_BAD_TAG;
     case MANY: return CAF_TOO_MANY_LABELS;
     case LABEL: return CAF_BAD_LABEL;
@@ -64,6 +69,7 @@ static uint32_t number_of(enum fault fault) {
     case SHORT: return CAF_CUT_SHORT;
     case LAYOUT: return CAF_BAD_LAYOUT;
     case TRAY: return CAF_BAD_TRAY;
+    case LITTLE: return CAF_LITTLE_RETIRED;
     }
     return UINT32_MAX;
 }
@@ -127,7 +133,7 @@ static uint32_t channels(unsigned faults) { return faults & MANY ? CHANNELS : CH
 
 static uint32_t set_format(unsigned faults) {
     before_header(faults);
-    return caf_set_format(record, CAF_RECORD, rate(faults), 8, bits(faults), false, false);
+    return caf_set_format(record, CAF_RECORD, rate(faults), 8, bits(faults), false, faults & LITTLE);
 }
 
 static uint32_t set_layout_tag(unsigned faults) {
@@ -308,6 +314,50 @@ static uint32_t resume_counted(const struct file *file, unsigned faults) {
     return caf_resume_counted(buf, ROOM, faults & BEYOND ? ROOM + 1 : file->len, 8, out, places(faults, CAF_RESUME_COUNTED_PLACES));
 }
 
+/* ---- two files compared */
+
+static uint32_t compare(const struct file *file, unsigned faults) {
+    uint64_t counts[2], told[CAF_COMPARE_PLACES];
+
+    return caf_compare(contents(file), file->len, contents(good), good->len, counts, faults & SMALL ? 1 : 2, told, places(faults, CAF_COMPARE_PLACES));
+}
+
+static uint32_t compare_samples(unsigned faults) {
+    uint64_t counts[2];
+
+    return caf_compare_samples(bytes, 6, false, bytes, 6, true, counts, 2, out, places(faults, CAF_SAMPLES_PLACES));
+}
+
+/* ---- WAVE: a film of no frames, whose WAVE file is its header */
+
+enum { RIFF_HEAD = 68 };
+
+static size_t head_room(unsigned faults) { return faults & SMALL ? RIFF_HEAD - 1 : CAF_WAVE_HEAD; }
+
+static uint32_t wave_plan(const struct file *file, unsigned faults) {
+    return caf_wave_plan(contents(file), file->len, buf, head_room(faults), out, places(faults, CAF_PLAN_PLACES));
+}
+
+static uint32_t to_wave(const struct file *file, unsigned faults) {
+    return caf_to_wave(contents(file), file->len, buf, head_room(faults), out, places(faults, 1));
+}
+
+static uint32_t wave_header(unsigned faults) {
+    static const uint32_t both[2] = {CAF_LABEL_LEFT, CAF_LABEL_RIGHT};
+    uint64_t info[CAF_STRICT_PLACES];
+
+    HOLDS(caf_read_strict(contents(stereo), stereo->len, info, CAF_STRICT_PLACES) == CAF_DONE);
+    info[CAF_STRICT_BITS] = faults & WIDTH ? 16 : 24;
+    return caf_wave_header(info, CAF_STRICT_PLACES, both, faults & NO_WAVE ? 1 : 2, 0, buf, head_room(faults), out, places(faults, 1));
+}
+
+static uint32_t wave_samples(unsigned faults) { return caf_wave_samples(buf, faults & ODD ? 7 : 6, false); }
+
+static uint32_t wave_read(unsigned faults) {
+    HOLDS(to_wave(stereo, NONE) == CAF_DONE && out[0] == RIFF_HEAD);
+    return caf_wave_read(buf, faults & BAD_WAVE ? RIFF_HEAD - 1 : RIFF_HEAD, out, places(faults, CAF_WAVE_PLACES));
+}
+
 /* ---- what is held */
 
 /* A call with its faults, in the order in which it tests for them. */
@@ -413,6 +463,38 @@ static void readings(void) {
     printf("\n");
 }
 
+static void delivery(const char *name, reading call) {
+    static const order room_first = {PLACES};
+
+    print_order(name, room_first);
+    HOLDS(call(stereo, NONE) == CAF_DONE);
+    show_files(call, room_first, strict_files, COUNT(strict_files));
+    show_files(call, room_first, layout_files, COUNT(layout_files));
+    show_files(call, room_first, wave_files, COUNT(wave_files));
+    HOLDS(call(stereo, SMALL) == CAF_NO_ROOM);
+    printf(" %u\n", CAF_NO_ROOM);
+}
+
+static void deliveries(void) {
+    show(&(const struct row){"caf_wave_header", wave_header, {PLACES, WIDTH, NO_WAVE, SMALL}}, 1);
+    delivery("caf_wave_plan", wave_plan);
+    show(&(const struct row){"caf_wave_samples", wave_samples, {ODD}}, 1);
+    delivery("caf_to_wave", to_wave);
+    show(&(const struct row){"caf_wave_read", wave_read, {PLACES, BAD_WAVE}}, 1);
+}
+
+static void comparisons(void) {
+    static const order room_first = {PLACES};
+
+    begin_reading("caf_compare", compare, room_first);
+    show_files(compare, room_first, strict_files, COUNT(strict_files));
+    show_files(compare, room_first, layout_files, COUNT(layout_files));
+    show_files(compare, room_first, compare_files, COUNT(compare_files));
+    HOLDS(compare(good, SMALL) == CAF_NO_ROOM);
+    printf(" %u\n", CAF_NO_ROOM);
+    show(&(const struct row){"caf_compare_samples", compare_samples, {PLACES}}, 1);
+}
+
 static void resumes(void) {
     static const order whole = {LENGTH, PLACES, BEYOND}, counted = {PLACES, BEYOND};
 
@@ -435,10 +517,9 @@ static const struct row layouts[] = {
     {"caf_read_chan", read_chan, {PLACES, SHORT, LAYOUT, SMALL}},
     {"caf_find_overview", find_overview, {PLACES}},
     {"caf_read_overview", read_overview, {PLACES, SHORT, SMALL}},
-    {"caf_new", new, {LENGTH}},
 };
 static const struct row writing[] = {
-    {"caf_set_format", set_format, {UNSOUND, HEADER, NOT_A_RATE, PACKET}},
+    {"caf_set_format", set_format, {UNSOUND, HEADER, LITTLE, NOT_A_RATE, PACKET}},
     {"caf_set_layout_tag", set_layout_tag, {UNSOUND, HEADER, TAG}},
     {"caf_set_layout_for_labels", set_layout_for_labels, {UNSOUND, HEADER, MANY, LABEL}},
     {"caf_configure_format", configure_format, {UNSOUND, HEADER, NOT_A_RATE, PACKET, MANY, LABEL}},
@@ -461,7 +542,10 @@ int main(void) {
     readings();
     show(trays, COUNT(trays));
     show(layouts, COUNT(layouts));
+    comparisons();
+    show(&(const struct row){"caf_new", new, {LENGTH}}, 1);
     resumes();
     show(writing, COUNT(writing));
+    deliveries();
     return 0;
 }

@@ -56,6 +56,12 @@ static const uint8_t data[12] = {1, 2, 3, 4, 5, 6, 7, 8, 9, 10, 11, 12};
 /* labels of the first row that is searched, of the last, and of none; the count of the latter is the most that a row has */
 static const uint32_t first[1] = {3}, last[8] = {3, 1, 2, 5, 6, 33, 34, 9}, none[8] = {8, 7, 6, 5, 4, 3, 2, 1};
 
+/* a row of the table, and none */
+static const uint32_t stereo[2] = {1, 2}, apart[2] = {1, 3};
+static uint8_t wave[ROOM];
+static uint64_t counts[8], compared[CAF_COMPARE_PLACES];
+static uint64_t told[CAF_STRICT_PLACES], wave_len;
+
 #define LENGTH ((size_t)record[CAF_RECORD_FILE_LEN])
 
 static void holds(bool fact, const char *what) {
@@ -119,6 +125,24 @@ static void shown(void) {
     holds(caf_find_overview(buf, LENGTH, place, CAF_OVERVIEW_PLACES) == CAF_DONE && place[CAF_OVERVIEW_FOUND], "caf_find_overview");
 }
 
+/* of two channels, that a WAVE file can say: by a tag, by descriptions; and the WAVE file */
+static void with_labels(const uint32_t *labels) {
+    fresh();
+    holds(caf_configure_format(record, CAF_RECORD, 48000.0, 2, 24, labels, 2) == CAF_DONE, "caf_configure_format");
+    begin();
+    holds(caf_write_data(record, CAF_RECORD, buf, ROOM, data, 12) == CAF_DONE, "caf_write_data");
+    holds(caf_finish(record, CAF_RECORD, buf, ROOM) == CAF_DONE, "caf_finish");
+    holds(caf_read_strict(buf, LENGTH, told, CAF_STRICT_PLACES) == CAF_DONE, "caf_read_strict");
+}
+
+static void deliverable(void) { with_labels(stereo); }
+static void deliverable_described(void) { with_labels(apart); }
+
+static void delivered(void) {
+    deliverable();
+    holds(caf_to_wave(buf, LENGTH, wave, sizeof wave, &wave_len, 1) == CAF_DONE, "caf_to_wave");
+}
+
 static void feeding(size_t count) {
     closed();
     holds(caf_feed_begin(feeder, CAF_FEEDER) == CAF_DONE, "caf_feed_begin");
@@ -159,10 +183,12 @@ static uint32_t find_chan(void) { return caf_find_chan(buf, LENGTH, out, CAF_CHA
 static uint32_t read_chan(void) { return caf_read_chan(buf + place[CAF_CHAN_START], place[CAF_CHAN_SIZE], 8, descriptions, 8 * CAF_DESCRIPTION, out, CAF_SAID_PLACES); }
 static uint32_t find_overview(void) { return caf_find_overview(buf, LENGTH, out, CAF_OVERVIEW_PLACES); }
 static uint32_t read_overview(void) { return caf_read_overview(buf + place[CAF_OVERVIEW_START], place[CAF_OVERVIEW_SIZE], 8, pairs, 2 * 8, out, CAF_PICTURE_PLACES); }
+static uint32_t compare(void) { return caf_compare(buf, LENGTH, buf, LENGTH, counts, 8, compared, CAF_COMPARE_PLACES); }
+static uint32_t compare_samples(void) { return caf_compare_samples(data, 12, false, buf, 12, true, counts, 2, out, CAF_SAMPLES_PLACES); }
 static uint32_t new(void) { return caf_new(record, CAF_RECORD); }
 static uint32_t resume(void) { return caf_resume(buf, ROOM, LENGTH, record, CAF_RECORD, out, 1); }
 static uint32_t resume_counted(void) { return caf_resume_counted(buf, ROOM, LENGTH, 8, out, CAF_RESUME_COUNTED_PLACES); }
-static uint32_t set_format(void) { return caf_set_format(record, CAF_RECORD, 48000.0, 8, 24, false, true); }
+static uint32_t set_format(void) { return caf_set_format(record, CAF_RECORD, 48000.0, 8, 24, true, false); }
 static uint32_t set_tag(void) { return caf_set_layout_tag(record, CAF_RECORD, 6619138); }
 static uint32_t labels_first(void) { return caf_set_layout_for_labels(record, CAF_RECORD, first, 1, 1); }
 static uint32_t labels_last(void) { return caf_set_layout_for_labels(record, CAF_RECORD, last, 8, 8); }
@@ -185,6 +211,11 @@ static uint32_t samples_counted(void) { return caf_write_samples_counted(record,
 static uint32_t finish_counted(void) { return caf_finish_counted(record, CAF_RECORD, buf, ROOM, 8, out, CAF_COUNTED_PLACES); }
 static uint32_t pack(void) { return caf_pack_24(samples, 4, false, bytes, 12); }
 static uint32_t unpack(void) { return caf_unpack_24(bytes, 12, true, samples, 4); }
+static uint32_t wave_header(void) { return caf_wave_header(told, CAF_STRICT_PLACES, stereo, 2, 12, wave, CAF_WAVE_HEAD, &wave_len, 1); }
+static uint32_t wave_plan(void) { return caf_wave_plan(buf, LENGTH, wave, CAF_WAVE_HEAD, out, CAF_PLAN_PLACES); }
+static uint32_t wave_samples(void) { return caf_wave_samples(bytes, 12, false); }
+static uint32_t to_wave(void) { return caf_to_wave(buf, LENGTH, wave, sizeof wave, &wave_len, 1); }
+static uint32_t wave_read(void) { return caf_wave_read(wave, wave_len, out, CAF_WAVE_PLACES); }
 
 /* In the order of include/caf.h, the rows of one call together. */
 static const struct row {
@@ -213,6 +244,9 @@ static const struct row {
     {"caf_read_chan", begun_described, read_chan},
     {"caf_find_overview", shown, find_overview},
     {"caf_read_overview", shown, read_overview},
+    {"caf_compare", closed, compare},
+    {"caf_compare", begun_described, compare},
+    {"caf_compare_samples", closed, compare_samples},
     {"caf_new", fresh, new},
     {"caf_resume", filled, resume},
     {"caf_resume_counted", filled, resume_counted},
@@ -241,6 +275,13 @@ static const struct row {
     {"caf_finish_counted", filled, finish_counted},
     {"caf_pack_24", fresh, pack},
     {"caf_unpack_24", fresh, unpack},
+    {"caf_wave_header", deliverable, wave_header},
+    {"caf_wave_plan", deliverable, wave_plan},
+    {"caf_wave_plan", deliverable_described, wave_plan},
+    {"caf_wave_samples", fresh, wave_samples},
+    {"caf_to_wave", deliverable, to_wave},
+    {"caf_to_wave", deliverable_described, to_wave},
+    {"caf_wave_read", delivered, wave_read},
 };
 enum { ROWS = sizeof rows / sizeof rows[0] };
 

@@ -3,6 +3,7 @@
 pub mod blocks;
 pub mod chan;
 pub mod counted;
+pub mod differences;
 pub mod layouts;
 pub mod made;
 pub mod overviews;
@@ -10,4 +11,5 @@ pub mod readings;
 pub mod samples;
 pub mod settings;
 pub mod trays;
+pub mod waves;
 pub mod writing;

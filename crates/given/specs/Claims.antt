@@ -10,6 +10,7 @@ use lib.Ieee.{Float}
 use Rattle.format.specs.Setting.{formatNumber}
 use Rattle.format.specs.declared.PCMDataType.{PCMDataType}
 use Rattle.format.specs.declared.Endianness.{Endianness}
+use Rattle.format.specs.declared.Endianness.the-variants.{BigEndian}
 use Rattle.layout.specs.Setting.{tagNumber, labelsNumber}
 use Rattle.pcm.specs.Packing.{sampleSize, packNumber}
 use Rattle.pcm.specs.Unpacking.{unpackNumber}
@@ -31,10 +32,10 @@ pub record GivenExactly : Type 0 where
   pub overview : (w : CAFWriter) (room number : ℕ) → (overviewNumber w room ≡ number) ↔ OverviewGives w room number
   pub group : (w : CAFWriter) (number : ℕ) → (groupNumber w ≡ number) ↔ GroupGives w number
   pub setting : (w : CAFWriter) (own number : ℕ) → (settingNumber w own ≡ number) ↔ SettingGives w own number
-  pub format : (rate : Float) (channels bits number : ℕ) → (formatNumber rate channels bits ≡ number) ↔ FormatGives rate channels bits number
+  pub format : (rate : Float) (channels bits : ℕ) (e : Endianness) (number : ℕ) → (formatNumber rate channels bits e ≡ number) ↔ FormatGives rate channels bits e number
   pub tag : (t number : ℕ) → (tagNumber t ≡ number) ↔ TagGives t number
   pub labels : (ls : List ℕ) (channels number : ℕ) → (labelsNumber ls channels ≡ number) ↔ LabelsGives ls channels number
-  pub configure : (rate : Float) (channels bits : ℕ) (ls : List ℕ) (number : ℕ) → (first (formatNumber rate channels bits) (labelsNumber ls channels) ≡ number) ↔ ConfigureGives rate channels bits ls number
+  pub configure : (rate : Float) (channels bits : ℕ) (ls : List ℕ) (number : ℕ) → (first (formatNumber rate channels bits BigEndian) (labelsNumber ls channels) ≡ number) ↔ ConfigureGives rate channels bits ls number
   pub pack : (xs : List ℤ) (room number : ℕ) → (packNumber xs room ≡ number) ↔ PackGives (length xs) room number
   pub unpack : (bytes : List ℕ) (room number : ℕ) → (unpackNumber bytes room ≡ number) ↔ UnpackGives (length bytes) room number
 
@@ -48,8 +49,8 @@ pub record NumbersOfCalls : Type 0 where
   pub overview : (w : CAFWriter) (buf : List ℕ) → overviewCall w buf .number ≡ overviewNumber w (length buf)
   pub group : (w : CAFWriter) (frames : ℕ) → groupCall w frames .number ≡ groupNumber w
   pub format : (w : CAFWriter) (rate : Float) (channels bits : ℕ) (t : PCMDataType) (e : Endianness)
-      → formatCall w rate channels bits t e .number ≡ settingNumber w (formatNumber rate channels bits)
+      → formatCall w rate channels bits t e .number ≡ settingNumber w (formatNumber rate channels bits e)
   pub tag : (w : CAFWriter) (t : ℕ) → tagCall w t .number ≡ settingNumber w (tagNumber t)
   pub labels : (w : CAFWriter) (ls : List ℕ) (channels : ℕ) → labelsCall w ls channels .number ≡ settingNumber w (labelsNumber ls channels)
   pub configure : (w : CAFWriter) (rate : Float) (channels bits : ℕ) (ls : List ℕ)
-      → configureCall w rate channels bits ls .number ≡ settingNumber w (first (formatNumber rate channels bits) (labelsNumber ls channels))
+      → configureCall w rate channels bits ls .number ≡ settingNumber w (first (formatNumber rate channels bits BigEndian) (labelsNumber ls channels))

@@ -111,8 +111,8 @@ module _ (e : Endianness) (s : Session) (p : Ordered e s) where
   order-set : (x : Setting) → Ordered e (doCall s (set x))
   unfolding formatCall tagCall labelsCall configureCall groupCall
   order-set (format rate channels bits t o) =
-      by-call s (set (format rate channels bits t o)) (Ordered e) (settingNumber w (formatNumber rate channels bits)) (stores 0 [] (withFormat w (pcmFormat rate channels bits t o) o)) refl refl p
-      (λ n. absurd (no-setting (formatNumber rate channels bits) n))
+      by-call s (set (format rate channels bits t o)) (Ordered e) (settingNumber w (formatNumber rate channels bits o)) (stores 0 [] (withFormat w (pcmFormat rate channels bits t o) o)) refl refl p
+      (λ n. absurd (no-setting (formatNumber rate channels bits o) n))
   order-set (tag t) =
       by-call s (set (tag t)) (Ordered e) (settingNumber w (tagNumber t)) (stores 0 [] (withLayout w (Tagged t) [])) refl refl p (λ n. absurd (no-setting (tagNumber t) n))
   order-set (labels ls channels) =
@@ -120,7 +120,7 @@ module _ (e : Endianness) (s : Session) (p : Ordered e s) where
       (λ n. absurd (no-setting (labelsNumber ls channels) n))
   order-set (configure rate channels bits ls) =
       let v = withFormat w (pcmFormat rate channels bits SignedInteger BigEndian) BigEndian in
-      let number = first (formatNumber rate channels bits) (labelsNumber ls channels) in
+      let number = first (formatNumber rate channels bits BigEndian) (labelsNumber ls channels) in
       by-call s (set (configure rate channels bits ls)) (Ordered e) (settingNumber w number) (stores 0 [] (withLabels v ls channels)) refl refl p
       (λ n. absurd (no-setting number n))
   order-set (group g) =

@@ -24,7 +24,7 @@ unfolding formatCall
 returns c =
     let a = c .before .before .args in
     let w = a .self in
-    let own = formatNumber (a .sample-rate) (a .channels) (a .bits-per-channel) in
+    let own = formatNumber (a .sample-rate) (a .channels) (a .bits-per-channel) (a .endianness) in
     let after = withFormat w (pcmFormat (a .sample-rate) (a .channels) (a .bits-per-channel) (a .data-type) (a .endianness)) (a .endianness) in
     let h = c .if1 .taken in
     refused-answer own w after (refused-first own w (c .before .settling .ensures) h) h
@@ -48,7 +48,7 @@ returns-2 c =
     let first = made .before in
     let a = first .before .before .args in
     let w = a .self in
-    let own = formatNumber (a .sample-rate) (a .channels) (a .bits-per-channel) in
+    let own = formatNumber (a .sample-rate) (a .channels) (a .bits-per-channel) (a .endianness) in
     let after = withFormat w (pcmFormat (a .sample-rate) (a .channels) (a .bits-per-channel) (a .data-type) (a .endianness)) (a .endianness) in
     let set = c .before .enum-told .given in
     let r = setting-refused (a .sample-rate) (a .channels) (a .bits-per-channel) (a .data-type) (a .endianness) (set .0 .0) (sym (made .pcm-format .ensures) ∙ set .1) in
@@ -65,7 +65,7 @@ returns-3 c =
     let first = made .before in
     let a = first .before .before .args in
     let w = a .self in
-    let own = formatNumber (a .sample-rate) (a .channels) (a .bits-per-channel) in
+    let own = formatNumber (a .sample-rate) (a .channels) (a .bits-per-channel) (a .endianness) in
     let after = withFormat w (pcmFormat (a .sample-rate) (a .channels) (a .bits-per-channel) (a .data-type) (a .endianness)) (a .endianness) in
     let set = c .before .before .set .given in
     let g = setting-given (a .sample-rate) (a .channels) (a .bits-per-channel) (a .data-type) (a .endianness) (set .0 .0) (sym (made .pcm-format .ensures) ∙ set .1) in
