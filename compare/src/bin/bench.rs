@@ -8,6 +8,8 @@
 mod blocks;
 #[path = "../bench/files.rs"]
 mod files;
+#[path = "../bench/films.rs"]
+mod films;
 #[path = "../bench/linked.rs"]
 mod linked;
 #[cfg_attr(traced, path = "../bench/traced.rs")]
@@ -40,4 +42,5 @@ fn main() {
     readings::opened(&table);
     blocks::fed_data(&table);
     blocks::streams(&table);
+    films::compared(&table);
 }
