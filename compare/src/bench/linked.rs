@@ -76,6 +76,18 @@ unsafe extern "C" {
     fn caf_feed_begin(feeder: *mut u64, feeder_len: usize) -> u32;
     fn caf_feed(feeder: *mut u64, feeder_len: usize, block: *const u8, block_len: usize) -> u32;
     fn caf_feed_end(feeder: *const u64, feeder_len: usize, out: *mut u64, out_len: usize) -> u32;
+    fn caf_compare_samples(
+        one: *const u8,
+        one_len: usize,
+        one_little: bool,
+        two: *const u8,
+        two_len: usize,
+        two_little: bool,
+        counts: *mut u64,
+        count_len: usize,
+        out: *mut u64,
+        out_len: usize,
+    ) -> u32;
 }
 
 /// Places that a reading fills, as a caller in C keeps them.
@@ -120,6 +132,15 @@ pub fn pack(samples: &[i32], little: bool, out: &mut [u8]) -> u32 {
 
 pub fn unpack(bytes: &[u8], little: bool, out: &mut [i32]) -> u32 {
     unsafe { caf_unpack_24(bytes.as_ptr(), bytes.len(), little, out.as_mut_ptr(), out.len()) }
+}
+
+/// The first frame of two payloads that differs, the first of them big-endian; how many samples differ goes to the counts, one for each channel.
+pub fn compare(one: &[u8], two: &[u8], little: bool, counts: &mut [u64]) -> Option<usize> {
+    let ((a, m), (b, n)) = ((one.as_ptr(), one.len()), (two.as_ptr(), two.len()));
+    let (counts, channels, mut found) = (counts.as_mut_ptr(), counts.len(), [0; 2]);
+    let number = unsafe { caf_compare_samples(a, m, false, b, n, little, counts, channels, found.as_mut_ptr(), 2) };
+    assert_eq!(number, 0);
+    (found[0] == 1).then_some(found[1] as usize)
 }
 
 const FEEDER: usize = 18;

@@ -8,6 +8,8 @@
 mod blocks;
 #[path = "../bench/files.rs"]
 mod files;
+#[path = "../bench/films.rs"]
+mod films;
 #[path = "../bench/linked.rs"]
 mod linked;
 #[path = "../bench/overviews.rs"]
@@ -47,4 +49,5 @@ fn main() {
     trays::opened(&table);
     blocks::fed_data(&table);
     blocks::streams(&table);
+    films::compared(&table);
 }
