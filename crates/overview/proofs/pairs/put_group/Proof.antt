@@ -1,7 +1,6 @@
 use borrow.Author.Needs.{needs}
-use Rattle.overview.proofs.Widened.{ends-before, put-over, block-put}
+use Rattle.overview.proofs.Blocks.{ends-before, first-block, put-over, block-put}
 use Rattle.overview.specs.Put.{endOf}
-use Rattle.overview.specs.Height.{widenedPairs}
 use Rattle.overview.specs.Groups.{channelPairs}
 use Rattle.byteorder.specs.Splice.{splice}
 use lib.ListN.{length, getD}
@@ -37,13 +36,23 @@ put-channels-requires c κs =
     let f = c .before .fewer .ensures in
     (omega (arith, ends-before (a .track) (a .from + c .before .fewer .result + 1) (a .from + a .more + 1) (omega arith), c .before .before .before .before .pre .1), omega arith)
 
+-- the first block has put the pairs of its frames
+begun : (c : tie.After-slice-known2 Inv-loop μ-loop)
+    → c .before .before .put-channels .last .0
+    ≡ splice (c .before .before .before .before .before .before .before .args .buf .now) (c .before .before .before .before .before .before .before .args .at) (channelPairs (c .before .before .before .before .before .before .before .args .track) (c .before .before .before .before .before .before .before .args .buf .now) (c .before .before .before .before .before .before .before .args .from) (c .before .before .before .before .fewer .result) (c .before .before .before .before .before .before .before .args .track .channels))
+begun c =
+    let a = c .before .before .before .before .before .before .before .args in
+    let bytes : (i : ℕ) → getD (a .buf .now) i 0 < 256 = λ i. c .before .before .before .before .before .before .slice-known .given i .fits in
+    c .before .before .put-channels .ensures ∙ ap (splice (a .buf .now) (a .at)) (first-block (a .track) (a .buf .now) bytes (a .at) (a .from) (c .before .before .before .before .fewer .result) (a .track .channels))
+
 loop-holds : tie.Need-loop-holds Inv-loop μ-loop
 loop-holds c =
-    let a = c .before .before .before .before .before .before .before .args in
-    let put = c .before .before .put-channels .ensures in
+    let start = c .before .before .before .before .before .before .before in
+    let a = start .args in
+    let last = c .before .before .before .before .fewer .result in
     let f = c .before .before .before .before .fewer .ensures in
-    let ends = ends-before (a .track) (a .from + c .before .before .before .before .fewer .result + 1) (a .from + a .more + 1) (omega arith) in
-    (omega arith, refl, put ∙ sym (put-over (a .track) (a .buf .now) (c .before .before .put-channels .last .0) (a .from) (c .before .before .before .before .fewer .result) (c .before .before .before .before .fewer .result) (a .at) (omega (arith, ends, c .before .before .before .before .before .before .before .pre .1)) (c .before .before .before .before .before .before .before .pre .2) put))
+    let ends = ends-before (a .track) (a .from + last + 1) (a .from + a .more + 1) (omega arith) in
+    (omega arith, refl, begun c ∙ sym (put-over (a .track) (a .buf .now) (c .before .before .put-channels .last .0) (a .from) last last (a .at) (omega (arith, ends, start .pre .1)) (start .pre .2) (begun c)))
 
 add-next : tie.Need-add-next Inv-loop μ-loop
 add-next c = search needs
@@ -54,11 +63,11 @@ sub-fewer c = search needs
 fewer-requires-2 : tie.Need-fewer-requires-2 Inv-loop μ-loop
 fewer-requires-2 c κs = search needs
 
-add-widen-channels : tie.Need-add-widen-channels Inv-loop μ-loop
-add-widen-channels c = omega arith
+add-put-channels : tie.Need-add-put-channels Inv-loop μ-loop
+add-put-channels c = omega arith
 
-widen-channels-requires : tie.Need-widen-channels-requires Inv-loop μ-loop
-widen-channels-requires c κs =
+put-channels-requires-2 : tie.Need-put-channels-requires-2 Inv-loop μ-loop
+put-channels-requires-2 c κs =
     let a = c .before .before .before .before .before .before .before .before .before .before .before .args in
     let l = c .before .before .before .loop in
     let f = c .before .fewer2 .ensures in
@@ -80,9 +89,9 @@ loop-again c =
     let f = c .before .before .before .before .fewer2 .ensures in
     let ends : endOf (a .track) (a .from + (suc (l .last) + n) + 1) ≤ a .at = omega (arith, ends-before (a .track) (a .from + (suc (l .last) + n) + 1) (a .from + a .more + 1) (omega arith), c .before .before .before .before .before .before .before .before .before .before .before .before .before .before .pre .1) in
     let room : a .at + 4 * a .track .channels ≤ length start = omega (arith, c .before .before .before .before .before .before .before .before .before .put-channels .kept) in
-    let put = rw add-one at (c .before .before .widen-channels .ensures) in (
+    let put = rw add-one at (c .before .before .put-channels2 .ensures) in (
       omega arith,
-      omega (arith, c .before .before .widen-channels .kept),
+      omega (arith, c .before .before .put-channels2 .kept),
       rw add-one (block-put (a .track) start (l .buf) bytes (a .from) (l .last) n (a .at) ends room (l .inv .2) put),
     )
 
@@ -91,12 +100,14 @@ same-length c = search needs
 
 returns : tie.Need-returns Inv-loop μ-loop
 returns c =
-    let a = c .before .before .before .before .before .before .before .before .before .args in
     let l = c .before .loop in
-    let start = c .before .before .before .before .put-channels .last .0 in
+    let k = c .before .before in
+    let start = k .before .before .before .before .before .before .before in
+    let a = start .args in
+    let buf = k .before .before .put-channels .last .0 in
     let all : l .last ≡ a .more = omega arith in
-    l .inv .2 ∙ ap (λ (k : ℕ). splice start (a .at) (channelPairs (a .track) start (a .from) k (a .track .channels))) all
-    ∙ put-over (a .track) (a .buf .now) start (a .from) (c .before .before .before .before .before .before .fewer .result) (a .more) (a .at) (c .before .before .before .before .before .before .before .before .before .pre .1) (c .before .before .before .before .before .before .before .before .before .pre .2) (c .before .before .before .before .put-channels .ensures)
+    l .inv .2 ∙ ap (λ (n : ℕ). splice buf (a .at) (channelPairs (a .track) buf (a .from) n (a .track .channels))) all
+    ∙ put-over (a .track) (a .buf .now) buf (a .from) (k .before .before .before .before .fewer .result) (a .more) (a .at) (start .pre .1) (start .pre .2) (begun k)
 
 pub put-group-spec : {M : Type 1} → statement M
 put-group-spec =
@@ -113,8 +124,8 @@ put-group-spec =
     add-next
     sub-fewer
     fewer-requires-2
-    add-widen-channels
-    widen-channels-requires
+    add-put-channels
+    put-channels-requires-2
     add-last
     loop-less
     loop-again

@@ -1,4 +1,4 @@
--- Pairs that stand in the buffer, widened by the samples of a block: those of the block and of all before it.
+-- The pairs of a group, put by its first block and widened by every later one: those of all blocks so far.
 use mathlib.Core.Path.{_≡_, refl, sym, ap, _∙_}
 use mathlib.Core.Bool.{Bool, true, false}
 use mathlib.Core.List.{List, [], _++_, append-nil}
@@ -14,7 +14,7 @@ use Rattle.byteorder.specs.Splice.{splice}
 use Rattle.byteorder.proofs.Laws.{length-splice, more, big-past, big-within, kept}
 use Rattle.byteorder.proofs.Places.{front-kept, rest-kept, after-kept, value-there}
 use Rattle.overview.specs.Groups.{chosen, pairOf, channelPairs}
-use Rattle.overview.specs.Height.{turned, heightAt, lowest, highest, widenedPair, widenedPairs}
+use Rattle.overview.specs.Height.{turned, heightAt, lowest, highest, setPair, blockPair, blockPairs}
 use Rattle.overview.specs.Put.{endOf}
 use Rattle.overview.specs.declared.Track.{Track}
 use Rattle.overview.proofs.Heights.{pair-is, span-small}
@@ -23,9 +23,9 @@ use Rattle.overview.proofs.ReadLaws.{two-bytes}
 use Rattle.overview.proofs.SameSamples.{chosen-same}
 use Rattle.overview.proofs.Stored.{channels-stay, span-stays}
 
-length-widened : (t : Track) (s : List ℕ) (at from n k : ℕ) → length (widenedPairs t s at from n k) ≡ 4 * k
-length-widened t s at from n zero = refl
-length-widened t s at from n (suc k) = let l = length-widened t s at from n k in simp length-append (omega arith)
+length-block : (first : Bool) (t : Track) (s : List ℕ) (at from n k : ℕ) → length (blockPairs first t s at from n k) ≡ 4 * k
+length-block first t s at from n zero = refl
+length-block first t s at from n (suc k) = let l = length-block first t s at from n k in simp length-append (omega arith)
 
 -- two bytes after those that were stored are as they were, and two among them are those that were stored
 number-after : (s vs : List ℕ) (at q : ℕ) → at + length vs ≤ length s → at + length vs ≤ q → bigAt 2 (splice s at vs) q ≡ bigAt 2 s q
@@ -38,23 +38,27 @@ number-there s vs at i room h =
     sym (two-bytes (splice s at vs) (at + i)) ∙ rw (e, value-there s at vs room i 0 (omega arith), value-there s at vs room (i + 1) 0 (omega arith)) (two-bytes vs i)
 
 -- one channel more
-module _ (t : Track) (start buf last : List ℕ) (from n at k low high : ℕ) where
-  pub channel-widened : k < t .channels → endOf t (from + n + 1) ≤ at → at + 4 * t .channels ≤ length start
-      → buf ≡ splice start at (widenedPairs t start at from n k)
+module _ (first : Bool) (t : Track) (start buf last : List ℕ) (from n at k low high : ℕ) where
+  pub channel-put : k < t .channels → endOf t (from + n + 1) ≤ at → at + 4 * t .channels ≤ length start
+      → buf ≡ splice start at (blockPairs first t start at from n k)
       → low ≡ lowest (t .order) buf (t .at + from * (3 * t .channels) + 3 * k) (3 * t .channels) n
       → high ≡ highest (t .order) buf (t .at + from * (3 * t .channels) + 3 * k) (3 * t .channels) n
-      → last ≡ splice buf (at + 4 * k) (bigBytes 2 (turned (min (turned (bigAt 2 buf (at + 4 * k))) low)) ++ bigBytes 2 (turned (max (turned (bigAt 2 buf (at + 4 * k + 2))) high)))
-      → last ≡ splice start at (widenedPairs t start at from n (suc k))
-  channel-widened h ends room stands lo hi put =
-      let vs = widenedPairs t start at from n k in
-      let l = length-widened t start at from n k in
+      → last ≡ splice buf (at + 4 * k) (setPair first buf (at + 4 * k) low high)
+      → last ≡ splice start at (blockPairs first t start at from n (suc k))
+  channel-put h ends room stands lo hi put =
+      let vs = blockPairs first t start at from n k in
+      let l = length-block first t start at from n k in
       let r : at + length vs ≤ length start = omega arith in
       let same = span-stays t start buf at (from + n + 1) ends vs r stands k from n h (omega arith) in
       let one : bigAt 2 buf (at + 4 * k) ≡ bigAt 2 start (at + 4 * k) = ap (λ (b : List ℕ). bigAt 2 b (at + 4 * k)) stands ∙ number-after start vs at (at + 4 * k) r (omega arith) in
       let two : bigAt 2 buf (at + 4 * k + 2) ≡ bigAt 2 start (at + 4 * k + 2) = ap (λ (b : List ℕ). bigAt 2 b (at + 4 * k + 2)) stands ∙ number-after start vs at (at + 4 * k + 2) r (omega arith) in
-      let pair : bigBytes 2 (turned (min (turned (bigAt 2 buf (at + 4 * k))) low)) ++ bigBytes 2 (turned (max (turned (bigAt 2 buf (at + 4 * k + 2))) high)) ≡ widenedPair t start (at + 4 * k) k from n =
-      rw (one, two, lo ∙ same .0, hi ∙ same .1) in
-      more start at (4 * k) vs (widenedPair t start (at + 4 * k) k from n) stands (put ∙ ap (splice buf (at + 4 * k)) pair) l (omega arith)
+      let pair : setPair first buf (at + 4 * k) low high ≡ blockPair first t start (at + 4 * k) k from n = rw (one, two, lo ∙ same .0, hi ∙ same .1) in
+      more start at (4 * k) vs (blockPair first t start (at + 4 * k) k from n) stands (put ∙ ap (splice buf (at + 4 * k)) pair) l (omega arith)
+
+-- the first block of a group has the pairs of its frames
+pub first-block : (t : Track) (s : List ℕ) (bytes : (i : ℕ) → getD s i 0 < 256) (at from n k : ℕ) → blockPairs true t s at from n k ≡ channelPairs t s from n k
+first-block t s bytes at from n zero = refl
+first-block t s bytes at from n (suc k) = rw (first-block t s bytes at from n k, pair-is t s bytes k from n)
 
 -- what is chosen of a block and of all before it
 module _ (pick : ℕ → ℕ → ℕ) (on : (a b c : ℕ) → pick a (pick b c) ≡ pick (pick a b) c) (f : ℕ → ℕ) where
@@ -144,7 +148,7 @@ module _ (t : Track) (start buf : List ℕ) (bytes : (i : ℕ) → getD start i 
     further : (i : ℕ) → t .at + (from + suc m) * step + 3 * k + i * step ≡ p + (suc m + i) * step
     further i = omega (arith, add-mul from (suc m) step, add-mul (suc m) i step)
 
-    widened-is : widenedPair t buf (at + 4 * k) k (from + suc m) n ≡ pairOf t start k from (suc m + n)
+    widened-is : blockPair false t buf (at + 4 * k) k (from + suc m) n ≡ pairOf t start k from (suc m + n)
     widened-is =
         let q = t .at + (from + suc m) * step + 3 * k in
         let f : ℕ → ℕ = λ i. heightAt (t .order) start (p + i * step) in
@@ -156,11 +160,11 @@ module _ (t : Track) (start buf : List ℕ) (bytes : (i : ℕ) → getD start i 
         rw (high-stood, same .1, chosen-same max (λ i. heightAt (t .order) start (q + i * step)) (λ i. f (suc m + i)) n each) (chosen-on max (λ a b c. omega arith) f m n) in
         rw (low, high) (pair-is t start bytes k from (suc m + n))
 
-  all-widened : (k : ℕ) → k ≤ t .channels → widenedPairs t buf at (from + suc m) n k ≡ channelPairs t start from (suc m + n) k
+  all-widened : (k : ℕ) → k ≤ t .channels → blockPairs false t buf at (from + suc m) n k ≡ channelPairs t start from (suc m + n) k
   all-widened zero h = refl
   all-widened (suc k) h = rw (all-widened k (omega arith), widened-is k (omega arith))
 
-  pub block-put : {last : List ℕ} → last ≡ splice buf at (widenedPairs t buf at (from + suc m) n (t .channels)) → last ≡ splice start at (channelPairs t start from (suc m + n) (t .channels))
+  pub block-put : {last : List ℕ} → last ≡ splice buf at (blockPairs false t buf at (from + suc m) n (t .channels)) → last ≡ splice start at (channelPairs t start from (suc m + n) (t .channels))
   block-put put =
       let xs = channelPairs t start from (suc m + n) (t .channels) in
       put ∙ ap (splice buf at) (all-widened (t .channels) (omega arith)) ∙ ap (λ (b : List ℕ). splice b at xs) stands
