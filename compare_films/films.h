@@ -22,8 +22,8 @@ struct side {
     uint64_t info[CAF_STRICT_PLACES];
     uint64_t chan[CAF_CHAN_PLACES];
     uint64_t frames, rest; /* whole frames, and the bytes after the last one */
-    /* the film without its whole frames: a short film of this one's format, layout and last bytes; none of a film that the
-     * strict reading refuses */
+    /* the film without its whole frames: a short film of this one's format, layout and last bytes; none of a film that
+     * the strict reading refuses */
     uint8_t *head;
     size_t head_len;
     /* what caf_read_chan says of the layout, where there is one */

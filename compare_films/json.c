@@ -7,7 +7,8 @@
 #include "names.h"
 #include "rate.h"
 
-/* The fields of the format and all else that can differ, in the order of caf_compare's places; NULL for a place that says more of another. */
+/* The fields of the format and all else that can differ, in the order of caf_compare's places; NULL for a place that says
+ * more of another. */
 static const char *const keys[CAF_COMPARE_PLACES] = {
     [CAF_COMPARE_RATE] = "rate",
     [CAF_COMPARE_FORMAT_ID] = "format_id",
@@ -45,9 +46,11 @@ static void print_rates(const struct side *sides) {
     int i;
 
     fputs(",\"rate\":[", stdout);
-    for (i = 0; i < 2; i++)
+    for (i = 0; i < 2; i++) {
+        fputs(i > 0 ? "," : "", stdout);
         /* JSON has no number for infinity */
-        printf(rate_digits(sides[i].info[CAF_STRICT_RATE], text, sizeof text) ? "%s%s" : "%s\"%s\"", i > 0 ? "," : "", text);
+        printf(rate_digits(sides[i].info[CAF_STRICT_RATE], text, sizeof text) ? "%s" : "\"%s\"", text);
+    }
     putchar(']');
 }
 
@@ -147,7 +150,7 @@ void print_json(const struct found *found) {
     if (found->number == CAF_DONE)
         print_found(found);
     else
-        printf("\"refused\",\"number\":%" PRIu32 ",\"word\":\"%s\",\"file\":%" PRIu64, found->number, caf_number_name(found->number),
-               found->out[CAF_COMPARE_FILE]);
+        printf("\"refused\",\"number\":%" PRIu32 ",\"word\":\"%s\",\"file\":%" PRIu64, found->number,
+               caf_number_name(found->number), found->out[CAF_COMPARE_FILE]);
     fputs("}\n", stdout);
 }

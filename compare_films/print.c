@@ -41,7 +41,8 @@ static void time_text(const struct side *side, uint64_t frames, char text[TEXT])
 
     text[0] = 0;
     if (side_milliseconds(side, frames, &ms))
-        snprintf(text, TEXT, "%" PRIu64 ":%02d:%02d.%03d", ms / 3600000, (int)(ms / 60000 % 60), (int)(ms / 1000 % 60), (int)(ms % 1000));
+        snprintf(text, TEXT, "%" PRIu64 ":%02d:%02d.%03d", ms / 3600000, (int)(ms / 60000 % 60),
+                 (int)(ms / 1000 % 60), (int)(ms % 1000));
 }
 
 static void print_value(const struct side *side, int place) {
@@ -166,8 +167,8 @@ static uint64_t print_samples(const struct found *found) {
         if (found->counts[c] != 0) {
             printf("channel %" PRIu64, c + 1);
             print_names(found, c);
-            printf(": %" PRIu64 " of %" PRIu64 " sample%s differ%s\n", found->counts[c], found->common, plural(found->common),
-                   found->counts[c] == 1 ? "s" : "");
+            printf(": %" PRIu64 " of %" PRIu64 " sample%s differ%s\n", found->counts[c], found->common,
+                   plural(found->common), found->counts[c] == 1 ? "s" : "");
             sum += found->counts[c];
         }
     if (found->out[CAF_COMPARE_HAS_FRAME])
@@ -192,7 +193,8 @@ static void print_lengths(const struct found *found) {
         putchar('\n');
     }
     if (found->out[CAF_COMPARE_REST])
-        printf("after the last whole frame: %" PRIu64 " and %" PRIu64 " bytes, which differ\n", found->sides[0].rest, found->sides[1].rest);
+        printf("after the last whole frame: %" PRIu64 " and %" PRIu64 " bytes, which differ\n", found->sides[0].rest,
+               found->sides[1].rest);
 }
 
 void print_plain(const struct found *found) {
@@ -211,6 +213,6 @@ void print_plain(const struct found *found) {
         print_layouts(found);
     differing = print_samples(found);
     print_lengths(found);
-    printf("different: %" PRIu64 " of %" PRIu64 " samples in %" PRIu64 " common frame%s\n", differing, found->common * found->channels,
-           found->common, plural(found->common));
+    printf("different: %" PRIu64 " of %" PRIu64 " samples in %" PRIu64 " common frame%s\n", differing,
+           found->common * found->channels, found->common, plural(found->common));
 }

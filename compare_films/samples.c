@@ -1,11 +1,12 @@
-/* The samples of two films, block by block: counts of whole frames add up, and the first difference is that of the first block that has one
- * (proved: BlocksJoin in crates/difference). */
+/* The samples of two films, block by block: counts of whole frames add up, and the first difference is that of the first
+ * block that has one (proved: BlocksJoin in crates/difference). */
 #include <string.h>
 
 #include "films.h"
 #include "progress.h"
 
-/* Bytes that are loaded of each film at a time, so that they are still in the cache when they are compared; at least one frame. */
+/* Bytes that are loaded of each film at a time, so that they are still in the cache when they are compared; at least one
+ * frame. */
 enum { BLOCK = 1 << 18, LARGEST_FRAME = SAMPLE * MOST_CHANNELS };
 
 static bool is_little(const struct side *side) {
@@ -23,8 +24,8 @@ static const char *count_block(struct found *found, uint64_t from, uint64_t fram
     for (*of = 0; *of < 2; ++*of)
         if ((fault = side_load(&sides[*of], blocks[*of], size, sides[*of].info[CAF_STRICT_DATA_START] + from * frame)))
             return fault;
-    caf_compare_samples(blocks[0], size, is_little(&sides[0]), blocks[1], size, is_little(&sides[1]), some, found->channels, first,
-                        CAF_SAMPLES_PLACES);
+    caf_compare_samples(blocks[0], size, is_little(&sides[0]), blocks[1], size, is_little(&sides[1]), some,
+                        found->channels, first, CAF_SAMPLES_PLACES);
     if (!first[CAF_SAMPLES_HAS_FRAME])
         return NULL;
     for (c = 0; c < found->channels; c++)

@@ -9,8 +9,9 @@
 #include "mapped.h"
 #include "parts.h"
 
-/* Bytes of the head before the body of its `chan`, where it has one. */
-enum { FILE_HEADER = 8, CHUNK_HEADER = 12, DESC = 32, EDIT_COUNT = 4, LAYOUT_AT = FILE_HEADER + CHUNK_HEADER + DESC + CHUNK_HEADER };
+/* Bytes of the parts of a film, and where the body of its `chan` stands in a head that has one. */
+enum { FILE_HEADER = 8, CHUNK_HEADER = 12, DESC = 32, EDIT_COUNT = 4 };
+enum { LAYOUT_AT = FILE_HEADER + CHUNK_HEADER + DESC + CHUNK_HEADER };
 
 static void look(const uint8_t *file, size_t len, void *into) {
     struct side *side = into;

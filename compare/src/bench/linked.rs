@@ -134,7 +134,8 @@ pub fn unpack(bytes: &[u8], little: bool, out: &mut [i32]) -> u32 {
     unsafe { caf_unpack_24(bytes.as_ptr(), bytes.len(), little, out.as_mut_ptr(), out.len()) }
 }
 
-/// The first frame of two payloads that differs, the first of them big-endian; how many samples differ goes to the counts, one for each channel.
+/// The first frame of two payloads that differs, the first of them big-endian; how many samples differ goes to the
+/// counts, one for each channel.
 pub fn compare(one: &[u8], two: &[u8], little: bool, counts: &mut [u64]) -> Option<usize> {
     let ((a, m), (b, n)) = ((one.as_ptr(), one.len()), (two.as_ptr(), two.len()));
     let (counts, channels, mut found) = (counts.as_mut_ptr(), counts.len(), [0; 2]);
