@@ -7,6 +7,14 @@ unsafe extern "C" {
     fn caf_layout_for_labels(labels: *const u32, count: usize, out: *mut u64, out_len: usize) -> u32;
     fn caf_pack_24(samples: *const i32, count: usize, little: bool, out: *mut u8, out_len: usize) -> u32;
     fn caf_unpack_24(bytes: *const u8, count: usize, little: bool, out: *mut i32, out_len: usize) -> u32;
+    fn caf_to_wave(
+        file: *const u8,
+        file_len: usize,
+        wave: *mut u8,
+        wave_len: usize,
+        length: *mut u64,
+        length_len: usize,
+    ) -> u32;
     fn caf_new(record: *mut u64, record_len: usize) -> u32;
     fn caf_set_format(
         record: *mut u64,
@@ -92,6 +100,11 @@ pub fn pack(samples: &[i32], little: bool, out: &mut [u8]) -> u32 {
 
 pub fn unpack(bytes: &[u8], little: bool, out: &mut [i32]) -> u32 {
     unsafe { caf_unpack_24(bytes.as_ptr(), bytes.len(), little, out.as_mut_ptr(), out.len()) }
+}
+
+pub fn to_wave(file: &[u8], wave: &mut [u8]) -> u32 {
+    let mut length = 0;
+    unsafe { caf_to_wave(file.as_ptr(), file.len(), wave.as_mut_ptr(), wave.len(), &mut length, 1) }
 }
 
 const FEEDER: usize = 18;

@@ -19,6 +19,8 @@ mod race;
 mod readings;
 #[path = "../bench/samples.rs"]
 mod samples;
+#[path = "../bench/waves.rs"]
+mod waves;
 #[path = "../bench/writing.rs"]
 mod writing;
 
@@ -36,6 +38,7 @@ fn main() {
     writing::clip(&table);
     writing::lookups(&table);
     writing::single_calls(&table);
+    waves::delivered(&table);
     blocks::fed_chunks(&table);
     readings::opened(&table);
     blocks::fed_data(&table);
