@@ -1,12 +1,14 @@
 """WAVE files made from the table in docs/FORMAT.md, for the tests."""
 import pathlib
+import re
 import struct
 
 PCM = bytes.fromhex('0100000000001000800000aa00389b71')
 ONES = b'\xff' * 4
-# the names of labels 1 to 18, which are those of bits 0 to 17
-NAMES = {int(number): name for kind, name, number in map(str.split, (pathlib.Path(__file__).parent / 'names.txt').read_text().splitlines())
-         if kind == 'label' and int(number) <= 18}
+# the names of labels for people; tests/names.c holds them to the Rust's
+HEADER = (pathlib.Path(__file__).parent.parent / 'include' / 'caf_names.h').read_text()
+NUMBERS = dict(re.findall(r'#define CAF_(LABEL_\w+) +(\d+)u', HEADER))
+NAMES = {int(NUMBERS[label]): name for label, name in re.findall(r'case CAF_(LABEL_\w+): return "(.*)";', HEADER)}
 
 
 def mask_of(labels):

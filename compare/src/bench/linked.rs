@@ -16,6 +16,14 @@ unsafe extern "C" {
     fn caf_layout_for_labels(labels: *const u32, count: usize, out: *mut u64, out_len: usize) -> u32;
     fn caf_pack_24(samples: *const i32, count: usize, little: bool, out: *mut u8, out_len: usize) -> u32;
     fn caf_unpack_24(bytes: *const u8, count: usize, little: bool, out: *mut i32, out_len: usize) -> u32;
+    fn caf_to_wave(
+        file: *const u8,
+        file_len: usize,
+        wave: *mut u8,
+        wave_len: usize,
+        length: *mut u64,
+        length_len: usize,
+    ) -> u32;
     fn caf_new(record: *mut u64, record_len: usize) -> u32;
     fn caf_set_format(
         record: *mut u64,
@@ -142,6 +150,11 @@ pub fn compare(one: &[u8], two: &[u8], little: bool, counts: &mut [u64]) -> Opti
     let number = unsafe { caf_compare_samples(a, m, false, b, n, little, counts, channels, found.as_mut_ptr(), 2) };
     assert_eq!(number, 0);
     (found[0] == 1).then_some(found[1] as usize)
+}
+
+pub fn to_wave(file: &[u8], wave: &mut [u8]) -> u32 {
+    let mut length = 0;
+    unsafe { caf_to_wave(file.as_ptr(), file.len(), wave.as_mut_ptr(), wave.len(), &mut length, 1) }
 }
 
 const FEEDER: usize = 18;

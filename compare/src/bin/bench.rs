@@ -24,6 +24,8 @@ mod samples;
 mod timed;
 #[path = "../bench/trays.rs"]
 mod trays;
+#[path = "../bench/waves.rs"]
+mod waves;
 #[path = "../bench/writing.rs"]
 mod writing;
 
@@ -43,6 +45,7 @@ fn main() {
     writing::single_calls(&table);
     overviews::appended(&table);
     overviews::copied(&table);
+    waves::delivered(&table);
     blocks::fed_chunks(&table);
     trays::called(&table);
     readings::opened(&table);
