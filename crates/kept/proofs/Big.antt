@@ -29,8 +29,8 @@ use Rattle.writer.specs.Settings.{settingNumber, first, withLayoutOf, withLabel
 use Rattle.writer.specs.Overview.{overviewNumber, overviewOf, overviewCall}
 use Rattle.writer.specs.declared.CAFWriter.{CAFWriter}
 use Rattle.writer.proofs.Tests.{pass, true-false}
-use Rattle.writer.proofs.Settling.{own-done}
 use Rattle.kept.specs.Big.{StaysBig, BigStays}
+use Rattle.kept.proofs.KeptSettings.{setting-allowed}
 
 -- a call: refused, or what it makes of the record
 by : (number : ℕ) (w : CAFWriter) (o : Outcome) → (number ≡ done → StaysBig w o) → StaysBig w (unlessRefused number w o)
@@ -41,10 +41,10 @@ by number w o make h = go (eqb number done) refl
     go false e = h
 
 -- a format that is set is big-endian
-set-big : (w after : CAFWriter) (rate : Float) (channels bits : ℕ) (e : Endianness) → settingNumber w (formatNumber rate channels bits e) ≡ done → e ≡ BigEndian
-set-big w after rate channels bits e n =
+set-big : (w : CAFWriter) (rate : Float) (channels bits : ℕ) (e : Endianness) → settingNumber w (formatNumber rate channels bits e) ≡ done → e ≡ BigEndian
+set-big w rate channels bits e n =
     let rest : ℕ = cond (notANumber rate) badRate (cond (isPacketTooBig bits channels) packetTooBig done) in
-    is-big e (pass (isLittle e) littleRetired rest (lit< tt) (own-done (formatNumber rate channels bits e) w after refl n) .0)
+    is-big e (pass (isLittle e) littleRetired rest (lit< tt) (setting-allowed w (formatNumber rate channels bits e) n .2) .0)
   where
     is-big : (e : Endianness) → isLittle e ≡ false → e ≡ BigEndian
     is-big BigEndian h = refl
@@ -72,8 +72,7 @@ big-stays =
       samples = λ w room xs. let bs = packed (w .endianness) xs in by (samplesNumber w room (length bs)) w (stores (w .«file_len») bs (withData w (length bs))) (λ n h. h);
       finish = λ w room. by (finishNumber w room) w (cond (w .finished) (unchanged done w) (stores (w .«size_position») (finalSize w) (asFinished w))) (λ n. finish-big w);
       format = λ w rate channels bits t e.
-          let after = withFormat w (pcmFormat rate channels bits t e) e in
-          by (settingNumber w (formatNumber rate channels bits e)) w (stores 0 [] after) (λ n h. set-big w after rate channels bits e n);
+          by (settingNumber w (formatNumber rate channels bits e)) w (stores 0 [] (withFormat w (pcmFormat rate channels bits t e) e)) (λ n h. set-big w rate channels bits e n);
       tag = λ w tag. by (settingNumber w (tagNumber tag)) w (stores 0 [] (withLayout w (Tagged tag) [])) (λ n h. h);
       labels = λ w ls channels. by (settingNumber w (labelsNumber ls channels)) w (stores 0 [] (withLabels w ls channels)) (λ n h. layout-order w (layoutFrom ls channels) ls ∙ h);
       configure = λ w rate channels bits ls.
