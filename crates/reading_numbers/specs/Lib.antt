@@ -1,3 +1,4 @@
 pub mod ReadingNumbers
+pub mod ReadingClaims
 pub mod LayoutNumbers
 pub mod ChanNumbers

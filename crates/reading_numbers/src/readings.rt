@@ -1,4 +1,11 @@
 // The two readings and the end of the one in blocks, with their answers as numbers.
+use crate::places::CHUNKS;
+use crate::places::PLAIN_ENDIANNESS;
+use crate::places::PLAIN_HAS_FORMAT;
+use crate::places::PLAIN_PLACES;
+use crate::places::STRICT_PLACES;
+use crate::places::STRICT_RATE;
+use crate::places::STRICT_SIZE_POSITION;
 use answers::DONE;
 use answers::NO_ROOM;
 use feeder_calls::calls::end_on;
@@ -25,22 +32,6 @@ ghost use Rattle.reading.specs.declared.StrictAnswer.the-variants.{Accepted as 
 ghost use Rattle.feeder_calls.specs.FeederCalls.{endOn};
 ghost use Rattle.numbers.specs.Lent.{numberGiven, lentAfter};
 ghost use Rattle.reading_numbers.specs.ReadingNumbers.{plainPlaces, strictPlaces, plainNumbers, strictNumbers};
-
-// The places of the answers' numbers: of both the count of chunk headers met; of the plain reading whether there is a format, before
-// its seven numbers, and the byte order and what follows; of the strict one the rate, before the six others, and what follows them.
-const CHUNKS: usize = 0;
-
-const PLAIN_HAS_FORMAT: usize = 1;
-
-const PLAIN_ENDIANNESS: usize = 9;
-
-const PLAIN_PLACES: usize = 12;
-
-const STRICT_RATE: usize = 1;
-
-const STRICT_SIZE_POSITION: usize = 8;
-
-const STRICT_PLACES: usize = 13;
 
 fn put_found(out: &mut [u64], info: CAFFileInfo, chunks: usize)
     requires { ⌜ plainPlaces ≤ length (now out) ⌝ }
