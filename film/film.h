@@ -126,7 +126,10 @@ enum film_error film_create(struct film *film, const char *path);
 enum film_error film_open(struct film *film, const char *path);
 
 /* Settings, as caf_set_format, caf_set_layout_tag and caf_set_layout_for_labels have them: before the
- * header. */
+ * header. No film is begun little-endian any longer: with little_endian true film_set_format is
+ * FILM_REFUSED, with CAF_LITTLE_RETIRED. An old film of that order is read, listed, metered, recovered,
+ * shown, delivered and compared as any other, and film_open resumes it: film_append_samples packs in the
+ * film's own order. */
 enum film_error film_set_format(struct film *film, double rate, uint32_t channels, uint32_t bits,
                                 bool is_float, bool little_endian);
 enum film_error film_set_layout_tag(struct film *film, uint32_t tag);

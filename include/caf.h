@@ -521,9 +521,9 @@ uint32_t caf_resume_counted(uint8_t *buf, size_t buf_len, uint64_t file_len, uin
  * format and layout are refused: CAF_HEADER_ALREADY. A later setting replaces an earlier one. */
 
 /* Sets the format: id `lpcm`, one frame per packet, rate, channels and bits as given, and the flag of
- * floating point. The layout stays as it is. Little-endian formats are no longer set:
- * CAF_LITTLE_RETIRED. A little-endian file that is there can be resumed, and then takes samples in its
- * own order.
+ * floating point. The layout stays as it is. Little-endian formats are no longer set: with little_endian
+ * true, CAF_LITTLE_RETIRED. A file of that order is read as any other, and resumed: caf_write_samples packs
+ * in the file's own order.
  *
  * Bytes per packet of the format are the bytes that hold `bits` (bits / 8, rounded up) times channels:
  * 20 bits and 2 channels make 6. From 2^32 on: CAF_PACKET_TOO_BIG. Samples are packed in three bytes
