@@ -142,17 +142,17 @@ module _ (s : Session) (g : Going s) where
         said = refl;
         more = bs;
         arrived = ap (λ (x : List ℕ). s .arrived ++ x) brings;
-        audio = ap (drop (start)) (take-end buf (w .«file_len») bs (g .in-room)) ∙ drop-append-le (start) (fileNow s) bs l;
+        audio = ap (drop start) (take-end buf (w .«file_len») bs (g .in-room)) ∙ drop-append-le start (fileNow s) bs l;
       })
 
   -- a finish stores before the data start
-  closed-audio : finishNumber w room ≡ done → drop (start) (take (w .«file_len») (splice buf (w .«size_position») (finalSize w))) ≡ drop (start) (fileNow s)
+  closed-audio : finishNumber w room ≡ done → drop start (take (w .«file_len») (splice buf (w .«size_position») (finalSize w))) ≡ drop start (fileNow s)
   closed-audio n =
       let d = headed-of w (g .has-header) (sound-alone w room (finish-sound w room n) .places) in
       let p = w .«size_position» in
       let l : p + 8 ≤ w .«file_len» = omega (arith, d .apart, d .to) in
       let e : start ≡ p + 8 + 4 = omega (arith, d .apart) in
-      ap (drop (start)) (take-within buf (w .«file_len») p (finalSize w) (g .in-room) l)
+      ap (drop start) (take-within buf (w .«file_len») p (finalSize w) (g .in-room) l)
       ∙ ap (λ (k : ℕ). drop k (splice (fileNow s) p (finalSize w))) e
       ∙ sym (drop-drop 4 (p + 8) (splice (fileNow s) p (finalSize w)))
       ∙ ap (drop 4) (rest-kept (fileNow s) p (finalSize w) (omega (arith, l, length-take-le (w .«file_len») buf (g .in-room))))
