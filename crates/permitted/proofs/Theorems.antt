@@ -22,4 +22,9 @@ one-result =
       fed = λ held fed x y p q j. (same (p .number) (q .number) j, same (p .kept) (q .kept) j);
       chan-read = λ body channels out answer x y p q j. (same (p .number) (q .number) j, same (p .described) (q .described) j, same (p .told) (q .told) j);
       overview-read = λ body channels out said x y p q j. (same (p .number) (q .number) j, same (p .pairs) (q .pairs) j, same (p .told) (q .told) j);
+      wave-header = λ info labels payload buf out x y p q j. (same (p .number) (q .number) j, same (p .stored) (q .stored) j, same (p .told) (q .told) j);
+      wave-plan = λ file buf out x y p q j. (same (p .number) (q .number) j, same (p .stored) (q .stored) j, same (p .told) (q .told) j);
+      to-wave = λ file wave out x y p q j. (same (p .number) (q .number) j, same (p .stored) (q .stored) j, same (p .told) (q .told) j);
+      compared = λ one two counts out x y p q j. (same (p .number) (q .number) j, same (p .counted) (q .counted) j, same (p .told) (q .told) j);
+      samples-compared = λ one oneLittle two twoLittle counts out x y p q j. (same (p .number) (q .number) j, same (p .counted) (q .counted) j, same (p .told) (q .told) j);
     }

@@ -2,6 +2,7 @@
 -- says so by its form. The calls for C promise records of such equations; here each record is held to it, so that it can lose no field.
 use Prim.Native.Nat.{ℕ}
 use mathlib.Core.Path.{_≡_}
+use mathlib.Core.Bool.{Bool}
 use mathlib.Core.List.{List}
 use lib.IntN.{ℤ}
 use Rattle.writer.specs.Outcome.{Outcome}
@@ -13,6 +14,8 @@ use Rattle.record_made.specs.RecordMade.{ResumeCall, ResumeCountedCall, StatsCa
 use Rattle.feeder_calls.specs.FeederCalls.{FeederCall}
 use Rattle.reading_numbers.specs.ChanNumbers as chan
 use Rattle.overview_numbers.specs.OverviewNumbers as overview
+use Rattle.wave_numbers.specs.WaveNumbers.{HeaderCall, PlanCall, WaveCall}
+use Rattle.comparing_numbers.specs.Told.{CompareCall, SamplesCall}
 
 -- a result: the number, and the last contents of what was lent
 abbrev pub AtMostOne : {A : Type 0} → (A → Type 0) → Type 0
@@ -31,3 +34,9 @@ pub record OneResult : Type 0 where
       → AtMostOne (λ (x : ℕ × List ℕ × List ℕ). chan.ReadCall body channels out answer (x .0) (x .1) (x .2))
   pub overview-read : (body : List ℕ) (channels : ℕ) (out : List ℤ) (said : List ℕ)
       → AtMostOne (λ (x : ℕ × List ℤ × List ℕ). overview.ReadCall body channels out said (x .0) (x .1) (x .2))
+  pub wave-header : (info labels : List ℕ) (payload : ℕ) (buf out : List ℕ) → AtMostOne (λ (x : ℕ × List ℕ × List ℕ). HeaderCall info labels payload buf out (x .0) (x .1) (x .2))
+  pub wave-plan : (file buf out : List ℕ) → AtMostOne (λ (x : ℕ × List ℕ × List ℕ). PlanCall file buf out (x .0) (x .1) (x .2))
+  pub to-wave : (file wave out : List ℕ) → AtMostOne (λ (x : ℕ × List ℕ × List ℕ). WaveCall file wave out (x .0) (x .1) (x .2))
+  pub compared : (one two counts out : List ℕ) → AtMostOne (λ (x : ℕ × List ℕ × List ℕ). CompareCall one two counts out (x .0) (x .1) (x .2))
+  pub samples-compared : (one : List ℕ) (oneLittle : Bool) (two : List ℕ) (twoLittle : Bool) (counts out : List ℕ)
+      → AtMostOne (λ (x : ℕ × List ℕ × List ℕ). SamplesCall one oneLittle two twoLittle counts out (x .0) (x .1) (x .2))
