@@ -6,6 +6,7 @@ use native.Mathlib.Omega.{arith}
 use lib.ListN.{length, take, drop, length-drop}
 use lib.Seq.{take-at, drop-at, drop-drop, drop-append-le, length-take-le}
 use Rattle.answers.specs.Numbers.{done}
+use Rattle.byteorder.specs.Splice.{splice}
 use Rattle.byteorder.proofs.Laws.{length-splice}
 use Rattle.format.specs.Flags.{endiannessOf, endiannessFor}
 use Rattle.format.specs.declared.AudioFormat.{AudioFormat}
@@ -30,7 +31,7 @@ use Rattle.kept.proofs.SettledKept.{settled-kept, order-given, order-is}
 use Rattle.recovery.specs.Calls.{samples}
 use Rattle.recovery.specs.Session.{Session, doCall, run}
 use Rattle.recovery.specs.AnyFile.{resumedIn, samplesIn, AppendsInOrder}
-use Rattle.recovery.proofs.Going.{fileNow, Going, Later, one-more, goes-on}
+use Rattle.recovery.proofs.Going.{fileNow, Going, Later, then, after-field, one-more, goes-on}
 use Rattle.recovery.proofs.Packing.{samples-allowed}
 use Rattle.recovery.proofs.Rule.{Rule, rule-once-more, rule-goes-on}
 
@@ -41,6 +42,7 @@ record Begins (buffer : List ℕ) (len : ℕ) : Type 0 where
   pub chunks : ℕ
   pub found : plain (take len buffer) ≡ Found info chunks
   pub said : saidBy (resumedIn buffer len .writer) ≡ info
+  pub audio : drop (info .«data_start») (fileNow (resumedIn buffer len)) ≡ drop (info .«data_start») (take len buffer)
 
 begins : (buffer : List ℕ) (len : ℕ) → resumeCall buffer len .number ≡ done → Begins buffer len
 begins buffer len h =
@@ -52,12 +54,19 @@ begins buffer len h =
     let long : length (resumedIn buffer len .buffer) ≡ length buffer =
     ap (λ (x : Outcome). length (bufferAfter x buffer)) (r .is) ∙ length-splice buffer (w .«size_position») openField room in
     let l : resumeCall buffer len .after .«file_len» ≡ len = ap (λ (v : CAFWriter). v .«file_len») after ∙ o .len-is in
+    let said : saidBy w ≡ o .reads .0 = ap saidBy (o .reads .3) in
+    let start : o .reads .0 .«data_start» ≡ w .«data_start» = ap (λ (i : CAFFileInfo). i .«data_start») (sym said) in
+    let d : o .reads .0 .«data_start» ≡ w .«size_position» + 8 + 4 = omega (arith, start, r .places .apart) in
     record {
       goes = record { has-header = ap (λ (v : CAFWriter). v .«has_header») after ∙ o .has-header; in-room = omega (arith, l, long, o .in-room) };
       info = o .reads .0;
       chunks = o .reads .1;
       found = o .reads .2;
-      said = ap saidBy (after ∙ o .reads .3);
+      said = ap saidBy after ∙ said;
+      audio =
+          ap (λ (x : Outcome). drop (o .reads .0 .«data_start») (take (x .after .«file_len») (bufferAfter x buffer))) (r .is)
+          ∙ ap (λ (n : ℕ). drop (o .reads .0 .«data_start») (take n (splice buffer (w .«size_position») openField))) (o .len-is)
+          ∙ after-field buffer len (w .«size_position») (o .reads .0 .«data_start») openField (o .in-room) (omega (arith, start, r .places .to, o .len-is)) d;
     }
 
 -- bytes at the end of the file of s stay where they are
@@ -110,6 +119,8 @@ appends-in-order buffer len before xs after h a =
     let from : w .«data_start» ≤ length (fileNow s) = omega (arith, long, headed-of w (p .goes .has-header) (alone .places) .to) in
     let rule : Rule u = rule-goes-on t (q .goes) after (rule-once-more s (p .goes) (samples xs) (rule-goes-on (resumedIn buffer len) (b .goes) before (settled-kept .resume buffer len))) in
     let reads = rule (r .goes .has-header) in
+    let all = then p (then q r) in
+    let from-start : resumedIn buffer len .writer .«data_start» ≡ b .info .«data_start» = ap (λ (i : CAFFileInfo). i .«data_start») (b .said) in
     let now : saidBy (u .writer) ≡ b .info = r .said ∙ q .said ∙ said in
     let there : samplesIn s xs u ≡ packed (endiannessOf f) xs =
     ap (λ (n : ℕ). take n (drop (length (fileNow s)) (fileNow u))) (sym (length-packed (w .endianness) xs)) ∙ stays s t u (packed (w .endianness) xs) (ok .appended) (q .said) from r ∙ packs in
@@ -121,6 +132,12 @@ appends-in-order buffer len before xs after h a =
       described = described;
       appended = ok .appended ∙ ap (λ (x : List ℕ). fileNow s ++ x) packs;
       there = there;
+      audio =
+          ap (λ (n : ℕ). drop n (fileNow u)) (sym from-start)
+          ∙ all .audio
+          ∙ ap (λ (n : ℕ). drop n (fileNow (resumedIn buffer len)) ++ all .more) from-start
+          ∙ ap (λ (x : List ℕ). x ++ all .more) (b .audio)
+          ∙ ap (λ (x : List ℕ). drop (b .info .«data_start») (take len buffer) ++ x) (sym (all .arrived));
       still = (reads .0, reads .1 ∙ ap (λ (i : CAFFileInfo). Found i (reads .0)) now);
       back = ap (unpacked (endiannessOf f)) there ∙ round-trip-any (endiannessOf f) xs;
       by-strict = λ v k e.

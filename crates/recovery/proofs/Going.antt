@@ -73,6 +73,19 @@ then {s} {t} {u} p q =
           ∙ append-assoc (drop d (fileNow s)) (p .more) (q .more);
     }
 
+-- stores into the size field leave what stands from the data start on, four bytes after the field
+pub after-field : (buf : List ℕ) (len p d : ℕ) (vs : List ℕ) → len ≤ length buf → d ≤ len → d ≡ p + length vs + 4
+    → drop d (take len (splice buf p vs)) ≡ drop d (take len buf)
+after-field buf len p d vs h l e =
+    let file = take len buf in
+    let n = p + length vs in
+    ap (drop d) (take-within buf len p vs h (omega arith))
+    ∙ ap (λ (k : ℕ). drop k (splice file p vs)) e
+    ∙ sym (drop-drop 4 n (splice file p vs))
+    ∙ ap (drop 4) (rest-kept file p vs (omega (arith, length-take-le len buf h)))
+    ∙ drop-drop 4 n file
+    ∙ ap (λ (k : ℕ). drop k file) (sym e)
+
 module _ (s : Session) (g : Going s) where
   abbrev w : CAFWriter
   w = s .writer
@@ -145,20 +158,6 @@ module _ (s : Session) (g : Going s) where
         audio = ap (drop start) (take-end buf (w .«file_len») bs (g .in-room)) ∙ drop-append-le start (fileNow s) bs l;
       })
 
-  -- a finish stores before the data start
-  closed-audio : finishNumber w room ≡ done → drop start (take (w .«file_len») (splice buf (w .«size_position») (finalSize w))) ≡ drop start (fileNow s)
-  closed-audio n =
-      let d = headed-of w (g .has-header) (sound-alone w room (finish-sound w room n) .places) in
-      let p = w .«size_position» in
-      let l : p + 8 ≤ w .«file_len» = omega (arith, d .apart, d .to) in
-      let e : start ≡ p + 8 + 4 = omega (arith, d .apart) in
-      ap (drop start) (take-within buf (w .«file_len») p (finalSize w) (g .in-room) l)
-      ∙ ap (λ (k : ℕ). drop k (splice (fileNow s) p (finalSize w))) e
-      ∙ sym (drop-drop 4 (p + 8) (splice (fileNow s) p (finalSize w)))
-      ∙ ap (drop 4) (rest-kept (fileNow s) p (finalSize w) (omega (arith, l, length-take-le (w .«file_len») buf (g .in-room))))
-      ∙ drop-drop 4 (p + 8) (fileNow s)
-      ∙ ap (λ (k : ℕ). drop k (fileNow s)) (sym e)
-
   by-finish : Later s (doCall s finish)
   unfolding finishCall
   by-finish = go (w .finished) refl
@@ -170,7 +169,8 @@ module _ (s : Session) (g : Going s) where
           (λ n.
           let d = headed-of w (g .has-header) (sound-alone w room (finish-sound w room n) .places) in
           let z : length (splice buf (w .«size_position») (finalSize w)) ≡ room = length-splice buf (w .«size_position») (finalSize w) (omega (arith, d .apart, d .to, g .in-room)) in
-          quietly _ (record { has-header = g .has-header; in-room = rw z (g .in-room) }) refl refl (closed-audio n))
+          quietly _ (record { has-header = g .has-header; in-room = rw z (g .in-room) }) refl refl
+          (after-field buf (w .«file_len») (w .«size_position») start (finalSize w) (g .in-room) (d .to) (omega (arith, d .apart))))
 
   by-lending : (more : List ℕ) → Later s (doCall s (lend more))
   by-lending more =

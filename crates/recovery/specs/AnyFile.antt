@@ -49,7 +49,9 @@ pub record InItsOrder (file : List ℕ) (before : Session) (xs : List ℤ) (now 
   pub described : info .format ≡ Present format
   -- the call puts the samples at the end of the file, packed in the byte order that the flags of that format give
   pub appended : fileOf (resting (doCall before (samples xs))) ≡ fileOf (resting before) ++ packed (endiannessOf format) xs
-  -- they stay there; the plain reading of the file gives what it gave; and unpacked in that order they are what 24 bits keep of them
+  -- all audio that the file had stays, and what arrived follows it
+  pub audio : drop (info .«data_start») (fileOf (resting now)) ≡ drop (info .«data_start») file ++ now .arrived
+  -- the samples stay where they are; the plain reading of the file gives what it gave; and unpacked in that order they are what 24 bits keep of them
   pub there : samplesIn before xs now ≡ packed (endiannessOf format) xs
   pub still : (k : ℕ) × (plain (fileOf (resting now)) ≡ Found info k)
   pub back : unpacked (endiannessOf format) (samplesIn before xs now) ≡ kept24 xs
