@@ -36,6 +36,8 @@ void progress_tell(uint64_t done, uint64_t all) {
 }
 
 void progress_end(void) {
-    if (of != NULL && told >= 0)
-        fputs("\r\033[K", stderr);
+    if (of == NULL || told < 0)
+        return;
+    fputs("\r\033[K", stderr);
+    fflush(stderr);
 }
