@@ -4,7 +4,7 @@
 #include <string.h>
 #include <unistd.h>
 
-#include "caf_names.h"
+#include "channel_names.h"
 #include "film.h"
 #include "mapped.h"
 #include "overview.h"
@@ -58,35 +58,17 @@ static void look(const uint8_t *file, size_t len, void *into) {
                                      CAF_DESCRIPTION * MOST_CHANNELS, found->said, CAF_SAID_PLACES);
 }
 
-/* The label of a described channel, where it is a name: one of the 47, and not a place in the room. */
-static uint32_t described(const uint32_t *description) {
-    bool is_name = description[CAF_DESCRIPTION_KNOWN] && description[CAF_DESCRIPTION_LABEL] != CAF_LABEL_USE_COORDINATES;
+/* A layout that is refused names no channel; that is no reason not to show it. */
+static void name_channels(struct overview *overview, const struct found *found) {
+    uint32_t i;
 
-    return is_name ? description[CAF_DESCRIPTION_LABEL] : CAF_LABEL_UNKNOWN;
-}
-
-/* The labels: those of the order that a tag stands for, or those described. A layout that is refused, or says neither,
- * names no channel; that is no reason not to show it. */
-static void label(struct overview *overview, const struct found *found) {
-    size_t i;
-
-    overview->labelled = 0;
-    if (found->names != CAF_DONE)
-        return;
-    if (found->said[CAF_SAID_ORDER_COUNT] > 0) {
-        overview->labelled = found->said[CAF_SAID_ORDER_COUNT];
-        for (i = 0; i < overview->labelled; i++)
-            overview->labels[i] = (uint32_t)found->said[CAF_SAID_ORDER + i];
-    } else if (found->said[CAF_SAID_TAG] == CAF_TAG_USE_CHANNEL_DESCRIPTIONS) {
-        overview->labelled = found->said[CAF_SAID_COUNT];
-        for (i = 0; i < overview->labelled; i++)
-            overview->labels[i] = described(found->descriptions + CAF_DESCRIPTION * i);
-    }
+    for (i = 0; i < overview->channels && i < MOST_CHANNELS && found->names == CAF_DONE; i++)
+        overview->names[i] = channel_name_in(found->said, found->descriptions, i);
 }
 
 const char *channel_name(const struct overview *overview, uint32_t channel, char name[CHANNEL_NAME]) {
-    if (channel < overview->labelled && overview->labels[channel] != CAF_LABEL_UNKNOWN)
-        return caf_label_name(overview->labels[channel]);
+    if (overview->names[channel] != NULL)
+        return overview->names[channel];
     snprintf(name, CHANNEL_NAME, "Channel %" PRIu32, channel + 1);
     return name;
 }
@@ -142,7 +124,7 @@ bool overview_find(struct overview *overview, const char *name, char why[WHY]) {
     overview->rate = found.strict[CAF_STRICT_RATE];
     overview->channels = (uint32_t)found.strict[CAF_STRICT_CHANNELS];
     overview->data_edits = found.data_edits;
-    label(overview, &found);
+    name_channels(overview, &found);
     return (found.place[CAF_OVERVIEW_FOUND] ? take_stored : take_samples)(overview, &found, why);
 }
 

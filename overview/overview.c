@@ -36,6 +36,7 @@
 #include "names.h"
 #include "out.h"
 #include "overview.h"
+#include "progress.h"
 
 static const char usage[] = "usage: overview [--] FILE\n"
                             "       overview --svg OUT [--force] [--] FILE\n"

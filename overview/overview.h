@@ -28,8 +28,7 @@ struct overview {
     uint64_t start;             /* where the body of a stored one stands */
     struct film_track track;    /* where the samples stand of which one is worked out, and */
     int16_t *pairs;             /* all pairs of it */
-    size_t labelled;            /* how many channels have a label; CAF_LABEL_UNKNOWN is one without a name */
-    uint32_t labels[MOST_CHANNELS];
+    const char *names[MOST_CHANNELS]; /* of channels, by their labels; NULL where there is none */
 };
 
 /* Finds the overview of a film, or where it could be worked out from; or says why not (find.c). overview_close is due
@@ -55,10 +54,5 @@ void describe(FILE *out, const struct overview *overview);
 bool print_text(const struct overview *overview, char why[WHY]);
 bool print_json(const struct overview *overview, char why[WHY]);
 bool print_svg(FILE *out, const struct overview *overview, char why[WHY]);
-
-/* How far it is, on a terminal, where that takes long (progress.c). */
-void progress_begin(const char *name);
-void progress_tell(uint64_t done, uint64_t all);
-void progress_end(void);
 
 #endif

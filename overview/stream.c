@@ -7,6 +7,7 @@
 #include "caf.h"
 #include "overview.h"
 #include "parts.h"
+#include "progress.h"
 
 /* Bytes of a body before its pairs, and of a pair. */
 enum { HEAD = 8, PAIR = 4 };
