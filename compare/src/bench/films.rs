@@ -4,8 +4,8 @@ use std::hint::black_box;
 
 use crate::MIB;
 use crate::linked;
-use crate::measured::repeated;
 use crate::race::{Goal, Table};
+use crate::timed::repeated;
 
 const CHANNELS: usize = 6;
 /// Whole frames of some 64 MiB.
