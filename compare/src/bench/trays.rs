@@ -79,11 +79,11 @@ fn by_table(tray: &[u8]) -> Side<'_> {
 const WHAT: &str = "a clip of 98 bytes among 4096 in a tray";
 
 pub fn called(table: &Table) {
-    if let Some(row) = table.row(WHAT, "caf_read_strict of each, by the table", Goal::Ratio(1.0)) {
-        race(row, by_table);
-    }
-    if let Some(row) = table.row(WHAT, "caf_read_strict of each, the clips at hand", Goal::None) {
+    if let Some(row) = table.row(WHAT, "caf_read_strict of each", Goal::Ratio(1.0)) {
         race(row, at_hand);
+    }
+    if let Some(row) = table.row(WHAT, "caf_read_strict of each, by the tray's table", Goal::None) {
+        race(row, by_table);
     }
 }
 
