@@ -1,12 +1,14 @@
 // The overview put after the data of a finished file, by the parts of the writer's record: which number refuses it, and its stores. The
 // call on the record itself is a method in `writer`. The definitions stand in specs/.
+#![tactic(auto)]
+
 pub mod append;
 mod whole;
 
 use format::{Endianness, MaybeFormat};
 
 // The data that a file ends with.
-#[derive(Drop)]
+#[derive(Clone, Copy)]
 pub struct Audio {
     pub format: MaybeFormat,
     pub order: Endianness,
@@ -15,7 +17,7 @@ pub struct Audio {
 }
 
 // The answer: how many bytes were stored, from the end of the data on.
-#[derive(Drop)]
+#[derive(Clone, Copy)]
 pub struct Appended {
     pub number: u32,
     pub stores: usize,

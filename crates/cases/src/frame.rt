@@ -4,7 +4,7 @@ ghost use Rattle.cases.specs.Frame.{case_at};
 
 use crate::number::{byte, count, plus};
 
-#[derive(Drop)]
+#[derive(Clone, Copy)]
 pub struct Case {
     pub kind: u32,
     pub start: usize,

@@ -75,7 +75,7 @@ pub fn end_of(s: &[u8], p: usize) -> usize
 }
 
 // A run of bytes in a case.
-#[derive(Drop)]
+#[derive(Clone, Copy)]
 pub struct Run {
     pub start: usize,
     pub end: usize,

@@ -5,7 +5,7 @@ ghost use Rattle.cut_films.specs.Film.{started_film, followed_by};
 pub const SESSIONS: usize = 3;
 
 // The layout is 0 for none, 1 for a tag, 2 for descriptions. Of the sessions the first `count` are made.
-#[derive(Drop)]
+#[derive(Clone, Copy)]
 pub struct Film {
     pub layout: u32,
     pub count: usize,

@@ -10,6 +10,8 @@
 //   no finish, and the digest is that of the file as it then stands.
 //
 // tools/check_cuts.py makes every line anew and holds it to demand 3.
+#![tactic(auto)]
+
 mod line;
 mod session;
 

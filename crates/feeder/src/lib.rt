@@ -1,4 +1,6 @@
 // Document 02, T-01 and T-05: the record of a file that comes in blocks, when it is sound, and what it says at the end. The definitions stand in specs/.
+#![tactic(auto)]
+
 pub mod end;
 pub mod pieces;
 pub mod sound;
@@ -6,14 +8,14 @@ pub mod sound;
 use format::AudioFormat;
 
 // The data chunk: still to come, or closed and passed over, with its size field and the position where the data start.
-#[derive(Drop)]
+#[derive(Clone, Copy)]
 pub enum DataChunk {
     Ahead,
     Passed(u64, usize),
 }
 
 // What the reader of blocks waits for.
-#[derive(Drop)]
+#[derive(Clone, Copy)]
 pub enum Phase {
     // the 8 bytes of the file header
     FileHeader,
@@ -36,7 +38,7 @@ pub enum Phase {
 }
 
 // The strict reading of a file that comes in blocks. It holds the first bytes of one piece, and no payload.
-#[derive(Drop)]
+#[derive(Clone, Copy)]
 pub struct Feeder {
     pub phase: Phase,
     // the bytes of the piece that have come: the first `count`

@@ -1,5 +1,7 @@
 // Prints each row of STANDARD_LAYOUTS with the tag that its own labels get, and three lists of labels that no row has. What it must
 // print is worked out from the Rust's text by tools/layout_rows.py.
+#![tactic(auto)]
+
 ghost use Rattle.std.specs.Prelude.{◌≤◌};
 
 use layout::label::{LEFT, MONO, RIGHT};

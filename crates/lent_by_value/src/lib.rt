@@ -1,4 +1,6 @@
 // A caller that keeps the record in a local of its own and lends it to the call. What it gives back is what the by-value call gives.
+#![tactic(auto)]
+
 ghost use Rattle.std.specs.Prelude.{◌≡◌, length};
 ghost use Rattle.writer.specs.Outcome.{answer, buffer_after};
 ghost use Rattle.writer.specs.Settings.{tag_call, configure_call};

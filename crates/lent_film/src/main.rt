@@ -1,5 +1,7 @@
 // A film through both sets of calls, side by side: the record by value, and the record lent. After each call the program prints the number,
 // the figures and the file's strict reading, and whether the two sets agree in these, in the file's length and in every byte of the buffer.
+#![tactic(auto)]
+
 mod calls;
 
 use answers::BAD_WRITER;

@@ -5,7 +5,7 @@ use answers::FILE_MAX;
 use libc::{SEEK_CUR, SEEK_END, SEEK_SET, STDIN_FILENO};
 
 // By how many bytes standard input was moved on, or that its position is lost.
-#[derive(Drop)]
+#[derive(Clone, Copy)]
 pub(crate) enum Moved {
     By(usize),
     Lost,

@@ -1,5 +1,7 @@
 // Runs 01's figures of packing and unpacking. Each line has the call, the number that it gave, and the whole lent slice after it, so the
 // places after a result show too: they were lent filled with ee, or with the sample 7.
+#![tactic(auto)]
+
 use format::Endianness;
 use pcm::packing::pack;
 use pcm::unpacking::unpack;

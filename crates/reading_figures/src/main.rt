@@ -1,6 +1,8 @@
 // Runs both readings on short files: concatenations of the pieces that stand on standard input, each in a slot of 64 bytes after its
 // length. `tools/reading_model.py` writes the input and, by a second implementation of document 01's words, the output that is wanted; it
 // says what the lines mean.
+#![tactic(auto)]
+
 mod digest;
 mod pieces;
 mod shown;

@@ -1,4 +1,6 @@
 // The writer's calls on the array of numbers that keeps its record for C.
+#![tactic(auto)]
+
 pub mod kept;
 pub mod settings;
 pub mod writing;

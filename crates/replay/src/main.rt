@@ -1,5 +1,7 @@
 // Replays the Rust's readings, layouts and packed samples, which stand in the file `stdin` (compare/README.md gives the meaning of each byte),
 // and prints how many are ours too. It needs no Rust. Scripts of calls are replayed by the program `replay_calls`.
+#![tactic(auto)]
+
 mod labels;
 mod readings;
 mod samples;

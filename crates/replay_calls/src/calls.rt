@@ -13,7 +13,7 @@ use cases::script::{
 use writer::{CAFWriter, Counted, Resumed, Wrote};
 
 // What stands after a call: its number and its count, the writer and its file.
-#[derive(Drop)]
+#[derive(Clone, Copy)]
 pub(crate) struct Done {
     pub number: u32,
     pub count: usize,

@@ -1,5 +1,7 @@
 // Replays the Rust's answers to scripts of calls on a writer, which stand in the file `stdin` (compare/README.md gives the meaning of each
 // byte), and prints how many scripts are ours too. It needs no Rust. The other cases are replayed by the program `replay`.
+#![tactic(auto)]
+
 mod calls;
 mod scripts;
 

@@ -1,5 +1,7 @@
 // Words and numbers on standard output, for the programs. The digits are those of the kit's `io::decimal` and `io::hex`, whose contracts
 // give every one of them. No contract can say what a call of the system writes, so what is promised here is safety and an end.
+#![tactic(auto)]
+
 ghost use Rattle.std.specs.Prelude.{◌≡◌, nat_abs};
 
 use libc::STDOUT_FILENO;

@@ -1,6 +1,8 @@
 // Writes document 01's example and prints it: 48000 Hz, two channels, 24 bits, Stereo, samples 1 and -1, finished. Each line of a call
 // has its number and the length of the file then. The buffer was lent filled with ee, so the bytes after the file show that they kept
 // their contents. Then come 01's bound on labels, bytes per packet as the header has them, and what a header settles.
+#![tactic(auto)]
+
 use format::{Endianness, PCMDataType};
 use layout::label::{LEFT, RIGHT};
 use writer::{CAFWriter, Wrote};
