@@ -1,0 +1,17 @@
+use mathlib.Core.Path.{◌≡◌, refl, ◌∙◌}
+use Prim.Native.Nat.{◌≤◌, ◌-◌, ◌+◌}
+use native.Mathlib.Omega.{arith}
+use lib.ListN.{length, take, length-set}
+use mir.ValLaws.{to_z-of_z}
+use mir.Val.{to_z, of_z}
+use mir.Syntax.{w32}
+use borrow.Author.Rules.{rules}
+use Rattle.cases.specs.List.{numbers_at, signed32}
+use Rattle.cases.proofs.Listed.{none_yet, one_more, all_done}
+use Rattle.cases.proofs.list.samples_at.Given as goal
+
+abbrev pub invariant-loop-i : goal.invariant-loop-i
+invariant-loop-i l = (l.i ≤ 16) × (16 ≡ length l.samples) × (take l.i l.samples ≡ numbers_at signed32 l.i l.s l.p)
+
+abbrev pub decreases-loop-i : goal.decreases-loop-i
+decreases-loop-i l = 16 - l.i

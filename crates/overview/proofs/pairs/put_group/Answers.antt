@@ -1,0 +1,81 @@
+use borrow.Author.Rules.{rules}
+use Rattle.overview.proofs.Blocks.{ends-before, first_block, put-over, block-put}
+use Rattle.overview.specs.Put.{end_of}
+use Rattle.overview.specs.Groups.{channel_pairs}
+use Rattle.byte_order.specs.Splice.{splice}
+use lib.ListN.{length, get_or}
+use native.Mathlib.Omega.{arith}
+use native.Mathlib.Numerals.{add-one}
+use Prim.Native.Nat.{ℕ, suc, ◌+◌, ◌-◌, ◌*◌, ◌≤◌, ◌<◌}
+use mathlib.Core.Path.{◌≡◌, refl, sym, ap, ◌∙◌}
+use Rattle.overview.proofs.pairs.put_group.Goals as goal
+
+-- the first block has put the pairs of its frames
+begun : (c : tie.After-slice-known2 invariant-loop decreases-loop)
+    → c.before.before.put-channels.new.0
+    ≡ splice c.before.before.before.before.before.before.before.args.buf.now c.before.before.before.before.before.before.before.args.at (channel_pairs c.before.before.before.before.before.before.before.args.track c.before.before.before.before.before.before.before.args.buf.now c.before.before.before.before.before.before.before.args.from c.before.before.before.before.fewer.result c.before.before.before.before.before.before.before.args.track.channels)
+begun c =
+    let a = c.before.before.before.before.before.before.before.args in
+    let bytes : (i : ℕ) → get_or a.buf.now i 0 < 256 = λ i. (c.before.before.before.before.before.before.slice-known.given i).fits in
+    c.before.before.put-channels.ensures ∙ ap (splice a.buf.now a.at) (first_block a.track a.buf.now bytes a.at a.from c.before.before.before.before.fewer.result a.track.channels)
+
+pub overflow_mul-block : goal.overflow_mul-block
+overflow_mul-block c = omega arith
+
+pub overflow_add-block : goal.overflow_add-block
+overflow_add-block c = omega arith
+
+pub nonzero_div-block : goal.nonzero_div-block
+nonzero_div-block c = omega arith
+
+pub put_channels-requires : goal.put_channels-requires
+put_channels-requires c =
+    let a = c.args in
+    let f = c.fewer-last.ensures in
+    (omega (arith, ends-before a.track (a.from + c.fewer-last.result + 1) (a.from + a.more + 1) (omega arith), c.requires.1), omega arith)
+
+pub loop-last-init : goal.loop-last-init
+loop-last-init c =
+    let a = c.args in
+    let last = c.fewer-last.result in
+    let f = c.fewer-last.ensures in
+    let ends = ends-before a.track (a.from + last + 1) (a.from + a.more + 1) (omega arith) in
+    (omega arith, refl, begun c ∙ sym (put-over a.track a.buf.now c.put_channels.new.buf a.from last last a.at (omega (arith, ends, c.requires.1)) c.requires.2 (begun c)))
+
+pub overflow_add-from : goal.overflow_add-from
+overflow_add-from c = omega arith
+
+pub put_channels-requires-in-loop-last : goal.put_channels-requires-in-loop-last
+put_channels-requires-in-loop-last c =
+    let a = c.args in
+    let f = c.fewer-rest.ensures in
+    (omega (arith, ends-before a.track (a.from + (c.loop-last.last + 1) + c.fewer-rest.result + 1) (a.from + a.more + 1) (omega arith), c.requires.1), omega arith)
+
+pub overflow_add-last : goal.overflow_add-last
+overflow_add-last c = omega arith
+
+pub loop-last-smaller : goal.loop-last-smaller
+loop-last-smaller c = omega (arith, c.fewer-rest.ensures)
+
+pub loop-last-preserved : goal.loop-last-preserved
+loop-last-preserved c =
+    let a = c.args in
+    let start = c.put_channels.new.buf in
+    let bytes : (i : ℕ) → get_or start i 0 < 256 = λ i. (c.slice_known-2-1.given i).fits in
+    let n = c.fewer-rest.result in
+    let f = c.fewer-rest.ensures in
+    let ends : end_of a.track (a.from + (suc c.loop-last.last + n) + 1) ≤ a.at = omega (arith, ends-before a.track (a.from + (suc c.loop-last.last + n) + 1) (a.from + a.more + 1) (omega arith), c.requires.1) in
+    let room : a.at + 4 * a.track.channels ≤ length start = omega (arith, c.put_channels.auto) in
+    let put = rw add-one at c.put_channels-in-loop-last.ensures in (
+      omega arith,
+      omega (arith, c.put_channels-in-loop-last.auto),
+      rw add-one (block-put a.track start c.loop-last.buf bytes a.from c.loop-last.last n a.at ends room c.loop-last.invariant.2 put),
+    )
+
+pub returns : goal.returns
+returns c =
+    let a = c.args in
+    let buf = c.put_channels.new.buf in
+    let all : c.loop-last.last ≡ a.more = omega arith in
+    c.loop-last.invariant.2 ∙ ap (λ (n : ℕ). splice buf a.at (channel_pairs a.track buf a.from n a.track.channels)) all
+    ∙ put-over a.track a.buf.now buf a.from c.fewer-last.result a.more a.at c.requires.1 c.requires.2 (begun c)

@@ -1,0 +1,21 @@
+use Rattle.overview_numbers.proofs.PlaceLaws.{place-long}
+use native.Mathlib.Omega.{arith}
+use Rattle.numbers.proofs.Puts.{put-fits}
+use Rattle.overview_numbers.specs.OverviewNumbers.{place_numbers}
+use Rattle.overview_finding.specs.Find.{find_overview}
+use Rattle.numbers.specs.Lent.{put_at}
+use borrow.Author.Tests.{lt-ltb, le-ltb}
+use mathlib.Core.Path.{◌∙◌, ap}
+use borrow.Author.Rules.{rules}
+use Rattle.overview_numbers.proofs.told.tell_place.Goals as goal
+
+pub returns-then-out-lt-PLACE_PLACES : goal.returns-then-out-lt-PLACE_PLACES
+returns-then-out-lt-PLACE_PLACES c = let t = lt-ltb _ _ c.if-out-lt-PLACE_PLACES.true in (rw t, rw t)
+
+pub returns : goal.returns
+returns c =
+    let t = le-ltb _ _ c.if-out-lt-PLACE_PLACES.false in
+    let out = c.args.out.now in
+    let place = find_overview c.args.file.now in
+    let e = c.place_numbers-numbers.ensures ∙ ap place_numbers c.find_overview-place.ensures in
+    (rw t, rw t (put-fits out 0 (place_numbers place) (omega (arith, place-long place, c.if-out-lt-PLACE_PLACES.false)) (c.put.ensures ∙ ap (put_at out 0) e)))

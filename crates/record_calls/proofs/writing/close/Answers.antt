@@ -1,0 +1,15 @@
+use Rattle.record_calls.proofs.Changed.{labels-long}
+use Rattle.record_calls.proofs.Places.{closed}
+use Rattle.record_numbers.specs.RecordNumbers.{record_of}
+use Rattle.record_numbers.proofs.Tidied.{tidied-is}
+use mathlib.Core.Path.{◌∙◌}
+use borrow.Author.Rules.{rules}
+use Rattle.record_calls.proofs.writing.close.Goals as goal
+
+pub returns : goal.returns
+unfolding record_of
+returns c =
+    let ns = c.args.held.now in
+    let p = c.requires in
+    let tidy = c.tidy.ensures ∙ tidied-is ns p.0 (c.slice_known-1.given 1).fits p.1 in
+    c.put.ensures ∙ rw tidy (closed (record_of ns) (labels-long ns p.0))

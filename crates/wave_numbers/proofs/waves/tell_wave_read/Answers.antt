@@ -1,0 +1,25 @@
+use mathlib.Core.Path.{sym, ◌∙◌}
+use native.Mathlib.Omega.{arith}
+use borrow.Author.Tests.{lt-ltb, le-ltb}
+use Rattle.byte_order.proofs.Laws.{splice-nil}
+use Rattle.numbers.proofs.Puts.{put-fits}
+use Rattle.wave.specs.declared.WaveRead.TheVariants.{Read}
+use Rattle.wave_numbers.specs.WaveNumbers.{wave_numbers}
+use borrow.Author.Rules.{rules}
+use Rattle.wave_numbers.proofs.waves.tell_wave_read.Goals as goal
+
+pub returns-then-out-lt-WAVE_PLACES : goal.returns-then-out-lt-WAVE_PLACES
+returns-then-out-lt-WAVE_PLACES c = (rw (lt-ltb _ _ c.if-out-lt-WAVE_PLACES.true), rw (lt-ltb _ _ c.if-out-lt-WAVE_PLACES.true))
+
+pub returns-in-NotRead : goal.returns-in-NotRead
+returns-in-NotRead c =
+    let free = le-ltb _ _ c.if-out-lt-WAVE_PLACES.false in
+    let e = sym c.read_wave-read.ensures ∙ c.in-NotRead.is in
+    (rw (free, e), rw (free, e) (sym (splice-nil c.args.out.now 0)))
+
+pub returns-in-Read : goal.returns-in-Read
+returns-in-Read c =
+    let free = le-ltb _ _ c.if-out-lt-WAVE_PLACES.false in
+    let e = sym c.read_wave-read.ensures ∙ c.in-Read.is in
+    let p = c.read-1.given.0 in
+    (rw (free, e), rw (free, e) (put-fits c.args.out.now 0 (wave_numbers (Read p.0 p.1.0)) (omega arith) c.put.ensures))
