@@ -17,4 +17,4 @@ pub loop-buffer-smaller : goal.loop-buffer-smaller
 loop-buffer-smaller c = let f = fed-forward _ _ _ c.loop-buffer.invariant.1 c.feed-fed.ensures c.if-fed-ne-DONE.false in let g = pass-forward _ _ _ f.sound c.pass-passed.ensures in omega (arith, f.total, f.limit, g.1, c.count-n.ensures, c.if-n-eq0.false)
 
 pub loop-buffer-preserved : goal.loop-buffer-preserved
-loop-buffer-preserved c = (c.read-got.auto.1.0 ∙ c.loop-buffer.invariant.0, (pass-forward _ _ _ (fed-forward _ _ _ c.loop-buffer.invariant.1 c.feed-fed.ensures c.if-fed-ne-DONE.false).sound c.pass-passed.ensures).0)
+loop-buffer-preserved c = (c.read-got.auto.buf ∙ c.loop-buffer.invariant.0, (pass-forward _ _ _ (fed-forward _ _ _ c.loop-buffer.invariant.1 c.feed-fed.ensures c.if-fed-ne-DONE.false).sound c.pass-passed.ensures).0)

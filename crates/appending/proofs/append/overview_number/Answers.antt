@@ -11,7 +11,7 @@ use Rattle.appending.proofs.append.overview_number.Goals as goal
 
 -- what the width decides, where no test before it does
 at_width : (c : tie.After-is-whole)
-    → number_as c.before.before.before.before.before.before.before.args.audio c.before.before.before.before.before.before.before.args.group c.before.before.before.before.before.before.before.args.sound c.before.before.before.before.before.before.before.args.has-header c.before.before.before.before.before.before.before.args.finished c.before.before.before.before.before.before.before.args.overview c.before.before.before.before.before.before.before.args.room
+    → number_as c.before.before.before.before.before.before.before.args.audio c.before.before.before.before.before.before.before.args.group c.before.before.before.before.before.before.before.args.sound c.before.before.before.before.before.before.before.args.has_header c.before.before.before.before.before.before.before.args.finished c.before.before.before.before.before.before.before.args.overview c.before.before.before.before.before.before.before.args.room
     ≡ cond (not c.is-whole.result) wrong_width (cond (exceeds (c.before.before.before.before.before.before.before.args.audio.end + length_as c.before.before.before.before.before.before.before.args.audio c.before.before.before.before.before.before.before.args.group) c.before.before.before.before.before.before.before.args.room) no_room_left done)
 at_width c =
     let a = c.before.before.before.before.before.before.before.args.audio in
@@ -30,7 +30,7 @@ pub returns-then-not-is_whole : goal.returns-then-not-is_whole
 returns-then-not-is_whole c = rw (at_width c, c.if-not-is_whole.true)
 
 pub frames_in-frames-requires : goal.frames_in-frames-requires
-frames_in-frames-requires c = sym c.is_whole.ensures ∙ not-false _ c.if-not-is_whole.false
+frames_in-frames-requires c = sym c.is_whole.ensures ∙ c.if-not-is_whole.false
 
 pub returns-then-is_too_long_with_it : goal.returns-then-is_too_long_with_it
 returns-then-is_too_long_with_it c = rw (at_width c, c.if-not-is_whole.false, ← at_room c, c.if-is_too_long_with_it.true)

@@ -6,8 +6,8 @@ use Rattle.comparing.proofs.payloads.payloads.Goals as goal
 pub returns : goal.returns
 returns c =
     let a = c.args in
-    let f = counts-there a.o a.one.now a.p a.two.now a.counts.now c.count-first.new.one.1.1.1.0 c.count-first.result a.channels c.requires c.count-first.auto.1.1.1.1.0 c.count-first.ensures in
-    let g = first-there a.o a.one.now a.p a.two.now a.counts.now c.count-first.new.one.1.1.1.0 c.count-first.result a.channels c.requires c.count-first.auto.1.1.1.1.0 c.count-first.ensures in
+    let f = counts-there a.o a.one.now a.p a.two.now a.counts.now c.count-first.new.counts c.count-first.result a.channels c.requires c.count-first.auto.counts c.count-first.ensures in
+    let g = first-there a.o a.one.now a.p a.two.now a.counts.now c.count-first.new.counts c.count-first.result a.channels c.requires c.count-first.auto.counts c.count-first.ensures in
     record {
       counted = f;
       first = g;

@@ -27,20 +27,20 @@ returns-then-not-has_room c =
     let a = c.args in
     let h = c.file_head-head.result in
     let d = headed a.info (chan_of a.caf.now) h c.file_head-head.ensures in
-    let full = room-refused a.caf.now a.info a.out.now h d c.if-number-ne-DONE.false (sym c.has_room.ensures ∙ not-true _ c.if-not-has_room.true) in
+    let full = room-refused a.caf.now a.info a.out.now h d c.if-number-ne-DONE.false (sym c.has_room.ensures ∙ c.if-not-has_room.true) in
     let x = told-refused a.caf.now a.info a.out.now 14 full (λ e. let no : ⊥ = omega arith in no) in
     (c.no_file-then-not-has_room.ensures ∙ x.0, x.1)
 
 pub overflow_add-length : goal.overflow_add-length
 overflow_add-length c =
     let a = c.args in
-    let room = leb-true (c.file_head-head.result.size + a.info.payload + pad_of a.info.payload) (length a.out.now) (sym c.has_room.ensures ∙ not-false _ c.if-not-has_room.false) in
+    let room = leb-true (c.file_head-head.result.size + a.info.payload + pad_of a.info.payload) (length a.out.now) (sym c.has_room.ensures ∙ c.if-not-has_room.false) in
     omega (arith, room)
 
 pub overflow_add-length-2 : goal.overflow_add-length-2
 overflow_add-length-2 c =
     let a = c.args in
-    let room = leb-true (c.file_head-head.result.size + a.info.payload + pad_of a.info.payload) (length a.out.now) (sym c.has_room.ensures ∙ not-false _ c.if-not-has_room.false) in
+    let room = leb-true (c.file_head-head.result.size + a.info.payload + pad_of a.info.payload) (length a.out.now) (sym c.has_room.ensures ∙ c.if-not-has_room.false) in
     omega (arith, room)
 
 pub deliver-requires : goal.deliver-requires
@@ -49,7 +49,7 @@ deliver-requires c =
     let v = a.info in
     let h = c.file_head-head.result in
     let d = headed v (chan_of a.caf.now) h c.file_head-head.ensures in
-    let room = leb-true (h.size + v.payload + pad_of v.payload) (length a.out.now) (sym c.has_room.ensures ∙ not-false _ c.if-not-has_room.false) in
+    let room = leb-true (h.size + v.payload + pad_of v.payload) (length a.out.now) (sym c.has_room.ensures ∙ c.if-not-has_room.false) in
     let l : length (take (v.data_start + v.payload - v.data_start) (drop v.data_start a.caf.now)) ≡ v.payload = simp (length-take, length-drop) (omega arith) in
     let frames = (allows v.format (labels_of (chan_of a.caf.now)) v.payload (d.made c.if-number-ne-DONE.false)).frames in
     rw l (omega (arith, d.size c.if-number-ne-DONE.false, start_small (kind_of v.payload)), thirds v.format.channels_per_frame v.payload frames, room)
@@ -62,7 +62,7 @@ returns c =
     let h = c.file_head-head.result in
     let d = headed v (chan_of s) h c.file_head-head.ensures in
     let ok = c.if-number-ne-DONE.false in
-    let there = room-there s v a.out.now h d ok (sym c.has_room.ensures ∙ not-false _ c.if-not-has_room.false) in
+    let there = room-there s v a.out.now h d ok (sym c.has_room.ensures ∙ c.if-not-has_room.false) in
     let x = told-done s v a.out.now there in
     let long = length-is s v a.out.now h d ok in
     let part = take (v.data_start + v.payload - v.data_start) (drop v.data_start s) in

@@ -17,10 +17,10 @@ pub slice_bounds-write_data_counted-end : goal.slice_bounds-write_data_counted-e
 slice_bounds-write_data_counted-end c = let k : length c.audio-all.result ≡ 251 = search rules in sym (length-take-le 1 c.audio-all.result (omega arith))
 
 pub returns-in-1 : goal.returns-in-1
-returns-in-1 c = let w = c.args.w in let room = length c.args.buf.now in let s = c.args.session in first_of c.args.n (data_call w room (take 1 c.audio-all.result)) (last_call w room s c.args.last) w c.write_data_counted.result c.args.buf.now c.write_data_counted.new.buf.0 (one_byte w room s c.args.last c.audio-all.result c.in-1.is c.audio-all.ensures) c.write_data_counted.ensures
+returns-in-1 c = let w = c.args.w in let room = length c.args.buf.now in let s = c.args.session in first_of c.args.n (data_call w room (take 1 c.audio-all.result)) (last_call w room s c.args.last) w c.write_data_counted.result c.args.buf.now c.write_data_counted.new.buf (one_byte w room s c.args.last c.audio-all.result c.in-1.is c.audio-all.ensures) c.write_data_counted.ensures
 
 pub returns-in-2 : goal.returns-in-2
-returns-in-2 c = let w = c.args.w in let room = length c.args.buf.now in let s = c.args.session in first_of c.args.n (samples_call w room c.samples-two.result) (last_call w room s c.args.last) w c.write_pcm_24bit_as_packed_counted.result c.args.buf.now c.write_pcm_24bit_as_packed_counted.new.buf.0 (two-samples w room s c.args.last c.samples-two.result c.in-2.is c.samples-two.ensures) c.write_pcm_24bit_as_packed_counted.ensures
+returns-in-2 c = let w = c.args.w in let room = length c.args.buf.now in let s = c.args.session in first_of c.args.n (samples_call w room c.samples-two.result) (last_call w room s c.args.last) w c.write_pcm_24bit_as_packed_counted.result c.args.buf.now c.write_pcm_24bit_as_packed_counted.new.buf (two-samples w room s c.args.last c.samples-two.result c.in-2.is c.samples-two.ensures) c.write_pcm_24bit_as_packed_counted.ensures
 
 pub returns-in_default : goal.returns-in_default
-returns-in_default c = let w = c.args.w in let room = length c.args.buf.now in let s = c.args.session in first_of c.args.n (finish_call w room) (last_call w room s c.args.last) w c.finish_counted.result c.args.buf.now c.finish_counted.new.buf.0 (any-other w room s c.args.last c.in_default.in_default-own.rest.0.1 c.in_default.in_default-own.rest.1) c.finish_counted.ensures
+returns-in_default c = let w = c.args.w in let room = length c.args.buf.now in let s = c.args.session in first_of c.args.n (finish_call w room) (last_call w room s c.args.last) w c.finish_counted.result c.args.buf.now c.finish_counted.new.buf (any-other w room s c.args.last c.in_default.in_default-own.rest.0.1 c.in_default.in_default-own.rest.1) c.finish_counted.ensures

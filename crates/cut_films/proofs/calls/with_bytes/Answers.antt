@@ -15,4 +15,4 @@ pub slice_bounds-write_data-end : goal.slice_bounds-write_data-end
 slice_bounds-write_data-end c = let k : length c.audio-all.result ≡ 251 = search rules in sym (length-take-le c.bytes_before-n.result c.audio-all.result (omega (arith, c.bytes_before-n.ensures.1)))
 
 pub returns : goal.returns
-returns c = let w = c.args.w in let room = length c.args.buf.now in let s = c.args.session in left_by (data_call w room (take c.bytes_before-n.result c.audio-all.result)) (bytes_call w room s c.args.last) c.write_data-wrote.result c.args.buf.now c.write_data-wrote.new.buf.0 (bytes w room s c.args.last c.bytes_before-n.result c.audio-all.result c.bytes_before-n.ensures.0 c.if-n-eq0.false c.audio-all.ensures) c.write_data-wrote.ensures
+returns c = let w = c.args.w in let room = length c.args.buf.now in let s = c.args.session in left_by (data_call w room (take c.bytes_before-n.result c.audio-all.result)) (bytes_call w room s c.args.last) c.write_data-wrote.result c.args.buf.now c.write_data-wrote.new.buf (bytes w room s c.args.last c.bytes_before-n.result c.audio-all.result c.bytes_before-n.ensures.0 c.if-n-eq0.false c.audio-all.ensures) c.write_data-wrote.ensures

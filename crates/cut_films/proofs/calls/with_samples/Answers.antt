@@ -9,4 +9,4 @@ use borrow.Author.Rules.{rules}
 use Rattle.cut_films.proofs.calls.with_samples.Goals as goal
 
 pub returns : goal.returns
-returns c = let w = c.args.w in let room = length c.args.buf.now in left_by (samples_call w room c.samples-two.result) (samples_call w room (samples_of c.args.session)) c.write_pcm_24bit_as_packed-wrote.result c.args.buf.now c.write_pcm_24bit_as_packed-wrote.new.buf.0 (ap (λ (xs : List ℤ). samples_call w room xs) c.samples-two.ensures) c.write_pcm_24bit_as_packed-wrote.ensures
+returns c = let w = c.args.w in let room = length c.args.buf.now in left_by (samples_call w room c.samples-two.result) (samples_call w room (samples_of c.args.session)) c.write_pcm_24bit_as_packed-wrote.result c.args.buf.now c.write_pcm_24bit_as_packed-wrote.new.buf (ap (λ (xs : List ℤ). samples_call w room xs) c.samples-two.ensures) c.write_pcm_24bit_as_packed-wrote.ensures

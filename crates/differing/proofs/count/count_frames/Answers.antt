@@ -16,7 +16,7 @@ pub count_group-first-requires : goal.count_group-first-requires
 count_group-first-requires c =
     let a = c.args in
     let next : c.loop-i.i + c.fewer.result ≤ a.frames = omega (arith, c.fewer.ensures) in
-    (omega arith, rw (c.loop-i.invariant.1 ∙ c.clear.auto.0) (fewer-there a.one.now a.two.now (length a.counts.now) (c.loop-i.i + c.fewer.result) a.frames next c.requires), c.loop-i.invariant.3)
+    (omega arith, rw (c.loop-i.invariant.1 ∙ c.clear.auto.counts) (fewer-there a.one.now a.two.now (length a.counts.now) (c.loop-i.i + c.fewer.result) a.frames next c.requires), c.loop-i.invariant.3)
 
 pub returns : goal.returns
 returns c =

@@ -9,7 +9,7 @@ unfolding end
 returns-then-not-is_sound c = rw (← c.is_sound.ensures, not-true c.is_sound.result c.if-not-is_sound.true)
 
 pub end_of-requires : goal.end_of-requires
-end_of-requires c = sym c.is_sound.ensures ∙ not-false _ c.if-not-is_sound.false
+end_of-requires c = sym c.is_sound.ensures ∙ c.if-not-is_sound.false
 
 pub returns : goal.returns
 unfolding end

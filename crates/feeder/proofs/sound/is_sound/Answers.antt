@@ -13,7 +13,7 @@ unfolding sound
 returns-then-not-held_few c = rw (le-leb _ _ c.if-r-gt-FILE_MAX.false, ← c.piece_size.ensures, ← c.held_few.ensures, not-true c.held_few.result c.if-not-held_few.true)
 
 pub phase_sound-requires : goal.phase_sound-requires
-phase_sound-requires c = rw (← c.piece_size.ensures) (leb-true _ _ (sym c.held_few.ensures ∙ not-false _ c.if-not-held_few.false))
+phase_sound-requires c = rw (← c.piece_size.ensures) (leb-true _ _ (sym c.held_few.ensures ∙ c.if-not-held_few.false))
 
 pub returns : goal.returns
 unfolding sound

@@ -14,12 +14,12 @@ returns-then-numbers-gt-CLOSED_DATA c = rw (eq-eqb _ _ c.if-numbers-ne-FEEDER.fa
 
 pub returns-then-not-words : goal.returns-then-not-words
 unfolding is_feeder
-returns-then-not-words c = rw (eq-eqb _ _ c.if-numbers-ne-FEEDER.false, le-leb _ _ c.if-numbers-gt-CLOSED_DATA.false, sym c.words.ensures ∙ not-true _ c.if-not-words.true)
+returns-then-not-words c = rw (eq-eqb _ _ c.if-numbers-ne-FEEDER.false, le-leb _ _ c.if-numbers-gt-CLOSED_DATA.false, sym c.words.ensures ∙ c.if-not-words.true)
 
 pub returns-then-numbers-eq-REFUSED : goal.returns-then-numbers-eq-REFUSED
 unfolding is_feeder
-returns-then-numbers-eq-REFUSED c = rw (eq-eqb _ _ c.if-numbers-ne-FEEDER.false, le-leb _ _ c.if-numbers-gt-CLOSED_DATA.false, sym c.words.ensures ∙ not-false _ c.if-not-words.false, eq-eqb _ _ c.if-numbers-eq-REFUSED.true)
+returns-then-numbers-eq-REFUSED c = rw (eq-eqb _ _ c.if-numbers-ne-FEEDER.false, le-leb _ _ c.if-numbers-gt-CLOSED_DATA.false, sym c.words.ensures ∙ c.if-not-words.false, eq-eqb _ _ c.if-numbers-eq-REFUSED.true)
 
 pub returns : goal.returns
 unfolding is_feeder
-returns c = rw (eq-eqb _ _ c.if-numbers-ne-FEEDER.false, le-leb _ _ c.if-numbers-gt-CLOSED_DATA.false, sym c.words.ensures ∙ not-false _ c.if-not-words.false, ne_eqb _ _ c.if-numbers-eq-REFUSED.false)
+returns c = rw (eq-eqb _ _ c.if-numbers-ne-FEEDER.false, le-leb _ _ c.if-numbers-gt-CLOSED_DATA.false, sym c.words.ensures ∙ c.if-not-words.false, ne_eqb _ _ c.if-numbers-eq-REFUSED.false)

@@ -30,7 +30,7 @@ returns c =
     let l = walked-lies a.s.now _ c.walk-w.ensures c.if-w-eq0.false in
     let room : length a.r.held ≡ 32 = search rules in
     past-some a.s.now a.r _ _ c.walk-w.ensures
-    (sym c.is_header.ensures ∙ not-false _ c.if-not-is_header.false)
+    (sym c.is_header.ensures ∙ c.if-not-is_header.false)
     c.if-r-ne0.false
     c.if-w-eq0.false
     room

@@ -9,7 +9,7 @@ unfolding feed
 returns-then-not-is_sound c = rw (← c.is_sound.ensures, not-true c.is_sound.result c.if-not-is_sound.true)
 
 pub feed_bytes-last-requires : goal.feed_bytes-last-requires
-feed_bytes-last-requires c = sym c.is_sound.ensures ∙ not-false _ c.if-not-is_sound.false
+feed_bytes-last-requires c = sym c.is_sound.ensures ∙ c.if-not-is_sound.false
 
 pub returns : goal.returns
 unfolding feed

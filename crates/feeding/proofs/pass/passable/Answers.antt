@@ -11,7 +11,7 @@ unfolding passable
 returns-then-not-is_sound c = rw (← c.is_sound.ensures, not-true c.is_sound.result c.if-not-is_sound.true)
 
 pub overflow_sub-r : goal.overflow_sub-r
-overflow_sub-r c = (sound-facts c.args.r (sym c.is_sound.ensures ∙ not-false _ c.if-not-is_sound.false)).total
+overflow_sub-r c = (sound-facts c.args.r (sym c.is_sound.ensures ∙ c.if-not-is_sound.false)).total
 
 pub returns : goal.returns
-returns c = c.may_pass.ensures ∙ sym (passable-is c.args.r (sym c.is_sound.ensures ∙ not-false _ c.if-not-is_sound.false))
+returns c = c.may_pass.ensures ∙ sym (passable-is c.args.r (sym c.is_sound.ensures ∙ c.if-not-is_sound.false))

@@ -13,10 +13,10 @@ pub loop-i-init : goal.loop-i-init
 loop-i-init c = (search rules, refl)
 
 pub returns-then-not-known_label : goal.returns-then-not-known_label
-returns-then-not-known_label c = sym (c.loop-i.invariant.1 ∙ rw (drop-cons c.args.labels.now c.loop-i.i 0 (omega arith), sym c.known_label.ensures ∙ not-true _ c.if-not-known_label.true))
+returns-then-not-known_label c = sym (c.loop-i.invariant.1 ∙ rw (drop-cons c.args.labels.now c.loop-i.i 0 (omega arith), sym c.known_label.ensures ∙ c.if-not-known_label.true))
 
 pub loop-i-preserved : goal.loop-i-preserved
-loop-i-preserved c = (omega arith, rw add-one (c.loop-i.invariant.1 ∙ rw (drop-cons c.args.labels.now c.loop-i.i 0 (omega arith), sym c.known_label.ensures ∙ not-false _ c.if-not-known_label.false)))
+loop-i-preserved c = (omega arith, rw add-one (c.loop-i.invariant.1 ∙ rw (drop-cons c.args.labels.now c.loop-i.i 0 (omega arith), sym c.known_label.ensures ∙ c.if-not-known_label.false)))
 
 pub returns : goal.returns
 returns c = sym (c.loop-i.invariant.1 ∙ rw (drop_of_length-le c.args.labels.now {i = c.loop-i.i} (omega arith)))

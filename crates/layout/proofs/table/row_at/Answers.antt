@@ -28,12 +28,12 @@ returns-in-0-to-15 c =
 
 pub returns-in-17-to-29 : goal.returns-in-17-to-29
 unfolding searched standard_layouts
-returns-in-17-to-29 c = c.searched_at-in-17-to-29.ensures ∙ in-run 16 1 c.args.i (past 16 (omega arith) c.in_default-1.rest.0.0.1) 13 refl (omega arith)
+returns-in-17-to-29 c = c.searched_at-in-17-to-29.ensures ∙ in-run 16 1 c.args.i (omega arith) 13 refl (omega arith)
 
 pub returns-in-31-to-36 : goal.returns-in-31-to-36
 unfolding searched standard_layouts
-returns-in-31-to-36 c = c.searched_at-in-31-to-36.ensures ∙ in-run 29 2 c.args.i (past 30 (omega arith) c.in_default-1.rest.0.1) 6 refl (omega arith)
+returns-in-31-to-36 c = c.searched_at-in-31-to-36.ensures ∙ in-run 29 2 c.args.i (omega arith) 6 refl (omega arith)
 
 pub returns-in_default : goal.returns-in_default
 unfolding searched standard_layouts
-returns-in_default c = c.searched_at-in_default.ensures ∙ in_rest 35 3 c.args.i (past 37 (omega arith) c.in_default-1.rest.1) refl
+returns-in_default c = c.searched_at-in_default.ensures ∙ in_rest 35 3 c.args.i (omega arith) refl

@@ -6,7 +6,7 @@ use borrow.Author.Rules.{rules}
 use Rattle.list.proofs.ahead.moved_on.Goals as goal
 
 pub overflow_cast-from : goal.overflow_cast-from
-overflow_cast-from c = let z = c.lseek-here.result in let e = to_z-of_z w64 z (sfits_of c.lseek-here.type-inv) in rw e (unsigned z (sfits_of c.lseek-here.type-inv) (rw e at c.if-here-lt0.false))
+overflow_cast-from c = let z = c.lseek-here.result in let e = to_z-of_z w64 z (sfits_of c.lseek-here.type_inv) in rw e (unsigned z (sfits_of c.lseek-here.type_inv) (rw e at c.if-here-lt0.false))
 
 pub overflow_cast-to : goal.overflow_cast-to
-overflow_cast-to c = let z = c.lseek-last.result in let e = to_z-of_z w64 z (sfits_of c.lseek-last.type-inv) in rw e (unsigned z (sfits_of c.lseek-last.type-inv) (rw e at c.if-last-lt0.false))
+overflow_cast-to c = let z = c.lseek-last.result in let e = to_z-of_z w64 z (sfits_of c.lseek-last.type_inv) in rw e (unsigned z (sfits_of c.lseek-last.type_inv) (rw e at c.if-last-lt0.false))

@@ -26,7 +26,7 @@ fits c =
 
 pub returns-then-not-can_put : goal.returns-then-not-can_put
 returns-then-not-can_put c =
-    let refused = sym c.can_put.ensures ∙ not-true _ c.if-not-can_put.true in
+    let refused = sym c.can_put.ensures ∙ c.if-not-can_put.true in
     (rw refused, rw refused)
 
 pub overflow_mul-size : goal.overflow_mul-size

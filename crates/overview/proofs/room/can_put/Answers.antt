@@ -17,11 +17,11 @@ returns-then-at-track c =
 pub returns-then-not-fit : goal.returns-then-not-fit
 returns-then-not-fit c =
     let a = c.args in
-    let shorter : leb (end_of a.track a.frames) a.at ≡ false = sym (without a.track.at (3 * (a.frames * a.track.channels)) a.at (omega arith)) ∙ sym c.fit.ensures ∙ not-true _ c.if-not-fit.true in
+    let shorter : leb (end_of a.track a.frames) a.at ≡ false = sym (without a.track.at (3 * (a.frames * a.track.channels)) a.at (omega arith)) ∙ sym c.fit.ensures ∙ c.if-not-fit.true in
     rw shorter
 
 pub returns : goal.returns
 returns c =
     let a = c.args in
-    let long : leb (end_of a.track a.frames) a.at ≡ true = sym (without a.track.at (3 * (a.frames * a.track.channels)) a.at (omega arith)) ∙ sym c.fit.ensures ∙ not-false _ c.if-not-fit.false in
+    let long : leb (end_of a.track a.frames) a.at ≡ true = sym (without a.track.at (3 * (a.frames * a.track.channels)) a.at (omega arith)) ∙ sym c.fit.ensures ∙ c.if-not-fit.false in
     rw long c.chunk_room.ensures

@@ -25,6 +25,6 @@ returns c =
     let l = length-packed a.endianness a.samples.now in
     let yes = le-ltb (length d) (sample_size * length a.samples.now) (omega arith) in
     let n = sample_size * length a.samples.now in
-    let whole : c.pack_first.new.endianness.1.0 ≡ splice d 0 bs =
+    let whole : c.pack_first.new.buf ≡ splice d 0 bs =
     c.pack_first.ensures.1 ∙ sym (all_done n 0 bs d (omega arith)).1 ∙ ap (λ (v : List ℕ). splice d 0 v) (take_all n bs (omega arith)) in
     (rw yes, rw yes whole)

@@ -31,5 +31,5 @@ returns c =
     let l = length-packed a.endianness a.samples.now in
     let is : c.bytes_wanted-count.result ≡ min a.n (length bs) = rw l c.bytes_wanted-count.ensures in
     let all = all_done a.n a.at bs a.buf.now (omega arith) in
-    let t : c.put_first.new.endianness.1.0 ≡ splice a.buf.now a.at (take a.n bs) = c.put_first.ensures ∙ ap (λ (v : List ℕ). splice a.buf.now a.at v) (rw is (take_min a.n bs)) in
+    let t : c.put_first.new.buf ≡ splice a.buf.now a.at (take a.n bs) = c.put_first.ensures ∙ ap (λ (v : List ℕ). splice a.buf.now a.at v) (rw is (take_min a.n bs)) in
     (rw (← l) (is ∙ all.0), t ∙ all.1)

@@ -21,7 +21,7 @@ loop-i-preserved c =
     let xs = a.samples.now in
     let these = take-take 8 (c.loop-i.i + 8 - c.loop-i.i) (drop c.loop-i.i xs) (omega arith) in
     let stored = c.put_eight.ensures ∙ ap (λ (ys : List ℤ). splice c.loop-i.buf (a.at + sample_size * c.loop-i.i) (packed a.endianness ys)) these in
-    (omega arith, c.put_eight.auto.1.1.0 ∙ c.loop-i.invariant.1, more-put a.endianness xs c.loop-i.i 8 a.at a.buf.now c.loop-i.buf _ (omega arith) (omega arith) c.loop-i.invariant.2 stored)
+    (omega arith, c.put_eight.auto.buf ∙ c.loop-i.invariant.1, more-put a.endianness xs c.loop-i.i 8 a.at a.buf.now c.loop-i.buf _ (omega arith) (omega arith) c.loop-i.invariant.2 stored)
 
 pub returns : goal.returns
 returns c = (c.loop-i.invariant.0, c.loop-i.invariant.2)

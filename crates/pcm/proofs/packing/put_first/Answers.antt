@@ -24,8 +24,8 @@ returns-then-r-gt0 c =
     let r = a.count % sample_size in
     let x = get_or xs k (pos 0) in
     let h : SFits w32 x = record { sfits = c.put_part-arg-then-r-gt0-1.given } in
-    let b : c.put_part.new.buf ≡ splice c.put_samples.new.endianness.1.0 (a.at + sample_size * k) (take r (bytes24 e (low24 x))) =
-    c.put_part.ensures ∙ ap (λ (v : ℕ). splice c.put_samples.new.endianness.1.0 (a.at + sample_size * k) (take r (bytes24 e v))) (passed x h) in
+    let b : c.put_part.new.buf ≡ splice c.put_samples.new.buf (a.at + sample_size * k) (take r (bytes24 e (low24 x))) =
+    c.put_part.ensures ∙ ap (λ (v : ℕ). splice c.put_samples.new.buf (a.at + sample_size * k) (take r (bytes24 e v))) (passed x h) in
     let n : length (packed e (take k xs)) ≡ sample_size * k = length-packed e (take k xs) ∙ ap (λ (m : ℕ). sample_size * m) (length-take-le k xs (omega arith)) in
     let t = length-take r (bytes24 e (low24 x)) in
     let all : sample_size * k + r ≡ a.count = omega arith in

@@ -16,6 +16,6 @@ returns c =
     let a = c.args in
     let xs = a.samples.now in
     let n = c.put_eights-n.result in
-    let buf = c.put_eights-n.new.endianness.1.0 in
-    rest_put a.endianness xs n a.k a.at a.buf.now buf c.put_each.new.endianness.1.0 c.put_eights-n.ensures.0 c.requires.0 c.requires.1 c.put_eights-n.ensures.1
+    let buf = c.put_eights-n.new.buf in
+    rest_put a.endianness xs n a.k a.at a.buf.now buf c.put_each.new.buf c.put_eights-n.ensures.0 c.requires.0 c.requires.1 c.put_eights-n.ensures.1
     (c.put_each.ensures ∙ ap (λ (ys : List ℤ). splice buf (a.at + sample_size * n) (packed a.endianness ys)) (take-take (a.k - n) (length xs - n) (drop n xs) (omega arith)))

@@ -24,6 +24,6 @@ returns c =
     let s = a.bytes.now in
     let d = a.out.now in
     let n = a.k - 1 in
-    let x : to_z w32 (of_z w32 c.sample_of.result) ≡ sample_at e s (sample_size * n) = to_z-of_z w32 c.sample_of.result (record { sfits = c.sample_of.type-inv }) ∙ c.sample_of.ensures in
+    let x : to_z w32 (of_z w32 c.sample_of.result) ≡ sample_at e s (sample_size * n) = to_z-of_z w32 c.sample_of.result (record { sfits = c.sample_of.type_inv }) ∙ c.sample_of.ensures in
     let all : suc n ≡ a.k = omega arith in
     ap (λ (l : List ℤ). set l n (to_z w32 (of_z w32 c.sample_of.result))) c.take_wide.ensures ∙ one_more e s n d _ x (omega arith) (omega arith) ∙ ap (λ (m : ℕ). splice d 0 (unpacked e (take (sample_size * m) s))) all

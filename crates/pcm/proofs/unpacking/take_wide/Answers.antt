@@ -25,7 +25,7 @@ loop-i-preserved c =
     let e = a.endianness in
     let s = a.bytes.now in
     let x : to_z w32 (of_z w32 c.sample_of.result) ≡ sample_at e s (sample_size * c.loop-i.i) =
-    to_z-of_z w32 c.sample_of.result (record { sfits = c.sample_of.type-inv }) ∙ c.sample_of.ensures ∙ ap (λ (w : List ℕ). signed24 (number24 e (get_or w 0 0) (get_or w 1 0) (get_or w 2 0))) c.word_at.ensures ∙ sample-within e s (sample_size * c.loop-i.i) in (
+    to_z-of_z w32 c.sample_of.result (record { sfits = c.sample_of.type_inv }) ∙ c.sample_of.ensures ∙ ap (λ (w : List ℕ). signed24 (number24 e (get_or w 0 0) (get_or w 1 0) (get_or w 2 0))) c.word_at.ensures ∙ sample-within e s (sample_size * c.loop-i.i) in (
       omega arith,
       simp length-set c.loop-i.invariant.1,
       rw (add-one, c.loop-i.invariant.2) (one_more e s c.loop-i.i a.out.now _ x (omega arith) (omega arith)),

@@ -11,14 +11,14 @@ returns-then-out-lt-STATS_PLACES c = let t = lt-ltb _ _ c.if-out-lt-STATS_PLACES
 pub returns-then-not-is_record : goal.returns-then-not-is_record
 returns-then-not-is_record c =
     let t = le-ltb _ _ c.if-out-lt-STATS_PLACES.false in
-    let e = sym c.is_record.ensures ∙ not-true _ c.if-not-is_record.true in
+    let e = sym c.is_record.ensures ∙ c.if-not-is_record.true in
     record { number = rw (t, e); told = rw (t, e) (sym (splice-nil c.args.out.now 0)) }
 
 pub returns : goal.returns
 unfolding record_of
 returns c =
     let t = le-ltb _ _ c.if-out-lt-STATS_PLACES.false in
-    let e = sym c.is_record.ensures ∙ not-false _ c.if-not-is_record.false in
+    let e = sym c.is_record.ensures ∙ c.if-not-is_record.false in
     record {
       number = rw (t, e);
       told = rw (t, e, ← c.number_at.ensures, ← c.number_at-2.ensures) c.tell_stats.ensures;

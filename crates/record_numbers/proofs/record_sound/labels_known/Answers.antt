@@ -35,7 +35,7 @@ returns-then-not-known_label c =
     let known : known_label (get_or ls c.loop-i.i 0) ≡ c.known_label.result =
     ap known_label (sym (label_at a.numbers.now is a.count c.requires.1 c.loop-i.i below)) ∙ sym c.known_label.ensures in
     let split = drop-cons ls c.loop-i.i 0 (rw (many a.numbers.now is a.count c.requires.1) below) in
-    sym (c.loop-i.invariant.1 ∙ rw (split, known ∙ not-true _ c.if-not-known_label.true))
+    sym (c.loop-i.invariant.1 ∙ rw (split, known ∙ c.if-not-known_label.true))
 
 pub loop-i-preserved : goal.loop-i-preserved
 loop-i-preserved c =
@@ -46,7 +46,7 @@ loop-i-preserved c =
     let known : known_label (get_or ls c.loop-i.i 0) ≡ c.known_label.result =
     ap known_label (sym (label_at a.numbers.now is a.count c.requires.1 c.loop-i.i below)) ∙ sym c.known_label.ensures in
     let split = drop-cons ls c.loop-i.i 0 (rw (many a.numbers.now is a.count c.requires.1) below) in
-    (omega arith, rw add-one (c.loop-i.invariant.1 ∙ rw (split, known ∙ not-false _ c.if-not-known_label.false)))
+    (omega arith, rw add-one (c.loop-i.invariant.1 ∙ rw (split, known ∙ c.if-not-known_label.false)))
 
 pub returns : goal.returns
 returns c =

@@ -9,13 +9,13 @@ use Rattle.record_numbers.proofs.record_sound.record_sound.Goals as goal
 
 pub returns-then-not-is_record : goal.returns-then-not-is_record
 unfolding sound_in
-returns-then-not-is_record c = rw (sym c.is_record.ensures ∙ not-true _ c.if-not-is_record.true)
+returns-then-not-is_record c = rw (sym c.is_record.ensures ∙ c.if-not-is_record.true)
 
 pub returns-then-room-file_len : goal.returns-then-room-file_len
 unfolding sound_in sound record_of
 returns-then-room-file_len c =
     rw (
-      sym c.is_record.ensures ∙ not-false _ c.if-not-is_record.false,
+      sym c.is_record.ensures ∙ c.if-not-is_record.false,
       ← c.number_at-file_len.ensures,
       lt-leb _ _ c.if-room-file_len.true,
     )
@@ -24,7 +24,7 @@ pub returns-then-file_len-gt-FILE_MAX : goal.returns-then-file_len-gt-FILE_MAX
 unfolding sound_in sound sound_alone record_of
 returns-then-file_len-gt-FILE_MAX c =
     rw (
-      sym c.is_record.ensures ∙ not-false _ c.if-not-is_record.false,
+      sym c.is_record.ensures ∙ c.if-not-is_record.false,
       ← c.number_at-file_len.ensures,
       le-leb _ _ c.if-room-file_len.false,
       lt-leb _ _ c.if-file_len-gt-FILE_MAX.true,
@@ -34,7 +34,7 @@ pub returns-then-not-places : goal.returns-then-not-places
 unfolding sound_in sound sound_alone places_sound record_of
 returns-then-not-places c =
     rw (
-      sym c.is_record.ensures ∙ not-false _ c.if-not-is_record.false,
+      sym c.is_record.ensures ∙ c.if-not-is_record.false,
       ← c.number_at-file_len.ensures,
       le-leb _ _ c.if-room-file_len.false,
       le-leb _ _ c.if-file_len-gt-FILE_MAX.false,
@@ -49,14 +49,14 @@ returns-then-not-places c =
 
 pub format_of-format-requires : goal.format_of-format-requires
 format_of-format-requires c =
-    let is = is-record _ (sym c.is_record.ensures ∙ not-false _ c.if-not-is_record.false) in
+    let is = is-record _ (sym c.is_record.ensures ∙ c.if-not-is_record.false) in
     (is.places, is.format)
 
 pub returns-then-not-format_sound : goal.returns-then-not-format_sound
 unfolding sound_in sound sound_alone places_sound format_sound record_of
 returns-then-not-format_sound c =
     rw (
-      sym c.is_record.ensures ∙ not-false _ c.if-not-is_record.false,
+      sym c.is_record.ensures ∙ c.if-not-is_record.false,
       ← c.number_at-file_len.ensures,
       le-leb _ _ c.if-room-file_len.false,
       le-leb _ _ c.if-file_len-gt-FILE_MAX.false,
@@ -75,13 +75,13 @@ returns-then-not-format_sound c =
     )
 
 pub layout_sound-requires : goal.layout_sound-requires
-layout_sound-requires c = sym c.is_record.ensures ∙ not-false _ c.if-not-is_record.false
+layout_sound-requires c = sym c.is_record.ensures ∙ c.if-not-is_record.false
 
 pub returns : goal.returns
 unfolding sound_in sound sound_alone places_sound format_sound layout_sound record_of
 returns c =
     rw (
-      sym c.is_record.ensures ∙ not-false _ c.if-not-is_record.false,
+      sym c.is_record.ensures ∙ c.if-not-is_record.false,
       ← c.number_at-file_len.ensures,
       le-leb _ _ c.if-room-file_len.false,
       le-leb _ _ c.if-file_len-gt-FILE_MAX.false,

@@ -32,8 +32,8 @@ loop-p-preserved c =
     n (a.at + c.loop-p.p) c.loop-p.out _ _ long (omega (arith, long, t.1, c.loop-p.invariant.3)) u c.pack_first.ensures.1 in (
       omega (arith, t.1),
       omega (arith, c.loop-p.invariant.1, t.3),
-      c.unpack.auto.1.1.0 ∙ c.loop-p.invariant.2,
-      c.pack_first.auto.1.1.0 ∙ c.loop-p.invariant.3,
+      c.unpack.auto.out ∙ c.loop-p.invariant.2,
+      c.pack_first.auto.buf ∙ c.loop-p.invariant.3,
       next-turn s c.loop-p.p n a.at a.out.now c.loop-p.out _ (omega (arith, t.1)) c.loop-p.invariant.1 t.3 (omega arith) c.loop-p.invariant.4 stored,
     )
 

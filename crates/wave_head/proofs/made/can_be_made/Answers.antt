@@ -24,10 +24,10 @@ pub returns-then-not-whole_frames : goal.returns-then-not-whole_frames
 unfolding can_be_made
 returns-then-not-whole_frames c =
     let w = c.args.w in
-    rw (lt-ltb 0 w.channels (omega arith), lt-ltb w.mask (2 ^ label_max) c.if-w-ge-MASK_END.false, eq-eqb (bits_set label_max w.mask) w.channels (sym c.bits_set.ensures ∙ c.if-bits_set-channels.false), sym c.whole_frames.ensures ∙ not-true _ c.if-not-whole_frames.true)
+    rw (lt-ltb 0 w.channels (omega arith), lt-ltb w.mask (2 ^ label_max) c.if-w-ge-MASK_END.false, eq-eqb (bits_set label_max w.mask) w.channels (sym c.bits_set.ensures ∙ c.if-bits_set-channels.false), sym c.whole_frames.ensures ∙ c.if-not-whole_frames.true)
 
 pub returns : goal.returns
 unfolding can_be_made
 returns c =
     let w = c.args.w in
-    rw (lt-ltb 0 w.channels (omega arith), lt-ltb w.mask (2 ^ label_max) c.if-w-ge-MASK_END.false, eq-eqb (bits_set label_max w.mask) w.channels (sym c.bits_set.ensures ∙ c.if-bits_set-channels.false), sym c.whole_frames.ensures ∙ not-false _ c.if-not-whole_frames.false) c.fields_fit.ensures
+    rw (lt-ltb 0 w.channels (omega arith), lt-ltb w.mask (2 ^ label_max) c.if-w-ge-MASK_END.false, eq-eqb (bits_set label_max w.mask) w.channels (sym c.bits_set.ensures ∙ c.if-bits_set-channels.false), sym c.whole_frames.ensures ∙ c.if-not-whole_frames.false) c.fields_fit.ensures

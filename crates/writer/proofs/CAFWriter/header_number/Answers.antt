@@ -25,7 +25,7 @@ returns-then-is_absent c = rw (← c.is_sound.ensures, c.if-not-is_sound.false, 
 pub header_len-requires : goal.header_len-requires
 header_len-requires c =
     let a = c.args in
-    is-alone a.self (sound-alone a.self a.room (sym c.is_sound.ensures ∙ not-false _ c.if-not-is_sound.false))
+    is-alone a.self (sound-alone a.self a.room (sym c.is_sound.ensures ∙ c.if-not-is_sound.false))
 
 pub returns-then-is_too_long : goal.returns-then-is_too_long
 unfolding header_number header_bytes_of
