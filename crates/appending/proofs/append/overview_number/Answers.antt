@@ -8,32 +8,33 @@ use Prim.Native.Nat.{◌+◌}
 use mathlib.Core.Path.{◌≡◌, sym, ◌∙◌}
 use borrow.Author.Rules.{rules}
 use Rattle.appending.proofs.append.overview_number.Goals as goal
+use Rattle.appending.proofs.append.overview_number.Goals.{After-is_too_long_with_it, After-is_whole}
 
 -- what the width decides, where no test before it does
-at_width : (c : tie.After-is-whole)
-    → number_as c.before.before.before.before.before.before.before.args.audio c.before.before.before.before.before.before.before.args.group c.before.before.before.before.before.before.before.args.sound c.before.before.before.before.before.before.before.args.has_header c.before.before.before.before.before.before.before.args.finished c.before.before.before.before.before.before.before.args.overview c.before.before.before.before.before.before.before.args.room
-    ≡ cond (not c.is-whole.result) wrong_width (cond (exceeds (c.before.before.before.before.before.before.before.args.audio.end + length_as c.before.before.before.before.before.before.before.args.audio c.before.before.before.before.before.before.before.args.group) c.before.before.before.before.before.before.before.args.room) no_room_left done)
+at_width : (c : After-is_whole)
+    → number_as c.args.audio c.args.group c.args.sound c.args.has_header c.args.finished c.args.overview c.args.room
+    ≡ cond (not c.is_whole.result) wrong_width (cond (exceeds (c.args.audio.end + length_as c.args.audio c.args.group) c.args.room) no_room_left done)
 at_width c =
-    let a = c.before.before.before.before.before.before.before.args.audio in
-    let whole : c.is-whole.result ≡ isWhole a.format (size_of a) = rw c.before.less.ensures at c.is-whole.ensures in
-    rw (c.before.before.before.before.before.before.if1.false, c.before.before.before.before.before.if2.false, c.before.before.before.before.if3.false, c.before.before.before.if4.false, ne_eqb _ _ c.before.before.if5.false, whole)
+    let a = c.args.audio in
+    let whole : c.is_whole.result ≡ isWhole a.format (size_of a) = rw c.less-payload.ensures at c.is_whole.ensures in
+    rw (c.if-not-sound.false, c.if-not-has_header.false, c.if-not-finished.false, c.if-overview.false, ne_eqb _ _ c.if-group-eq0.false, whole)
 
 -- and the room
-at_room : (c : tie.After-is-too-long-with-it)
-    → c.is-too-long-with-it.result ≡ exceeds (c.before.before.before.before.before.before.before.before.before.before.before.args.audio.end + length_as c.before.before.before.before.before.before.before.before.before.before.before.args.audio c.before.before.before.before.before.before.before.before.before.before.before.args.group) c.before.before.before.before.before.before.before.before.before.before.before.args.room
-at_room c = rw (c.before.before.channels-of.ensures.0, c.before.frames-in.ensures, c.before.before.before.before.before.less.ensures) at c.is-too-long-with-it.ensures
+at_room : (c : After-is_too_long_with_it)
+    → c.is_too_long_with_it.result ≡ exceeds (c.args.audio.end + length_as c.args.audio c.args.group) c.args.room
+at_room c = rw (c.channels_of-channels.ensures.0, c.frames_in-frames.ensures, c.less-payload.ensures) at c.is_too_long_with_it.ensures
 
 pub returns-then-group-eq0 : goal.returns-then-group-eq0
 returns-then-group-eq0 c = rw (c.if-not-sound.false, c.if-not-has_header.false, c.if-not-finished.false, c.if-overview.false, eq-eqb _ _ c.if-group-eq0.true)
 
 pub returns-then-not-is_whole : goal.returns-then-not-is_whole
-returns-then-not-is_whole c = rw (at_width c, c.if-not-is_whole.true)
+returns-then-not-is_whole c = rw (at_width (goal.at.returns-then-not-is_whole c).After-is_whole, c.if-not-is_whole.true)
 
 pub frames_in-frames-requires : goal.frames_in-frames-requires
 frames_in-frames-requires c = sym c.is_whole.ensures ∙ c.if-not-is_whole.false
 
 pub returns-then-is_too_long_with_it : goal.returns-then-is_too_long_with_it
-returns-then-is_too_long_with_it c = rw (at_width c, c.if-not-is_whole.false, ← at_room c, c.if-is_too_long_with_it.true)
+returns-then-is_too_long_with_it c = rw (at_width (goal.at.returns-then-is_too_long_with_it c).After-is_whole, c.if-not-is_whole.false, ← at_room (goal.at.returns-then-is_too_long_with_it c).After-is_too_long_with_it, c.if-is_too_long_with_it.true)
 
 pub returns : goal.returns
-returns c = rw (at_width c, c.if-not-is_whole.false, ← at_room c, c.if-is_too_long_with_it.false)
+returns c = rw (at_width (goal.at.returns c).After-is_whole, c.if-not-is_whole.false, ← at_room (goal.at.returns c).After-is_too_long_with_it, c.if-is_too_long_with_it.false)

@@ -11,18 +11,19 @@ use Rattle.overview.specs.Put.{end_of, can_put}
 use Rattle.overview.proofs.Counts.{can-put-says}
 use Rattle.overview.proofs.Stored.{head, chunk-put}
 use Rattle.overview.proofs.chunk.put_overview.Goals as goal
+use Rattle.overview.proofs.chunk.put_overview.Goals.{After-group_count-count}
 
 -- what the test has shown
-tested : (c : tie.After-group-count) → can_put c.before.before.before.before.args.track c.before.before.before.before.args.group c.before.before.before.before.args.frames c.before.before.before.before.args.at (length c.before.before.before.before.args.buf.now) ≡ true
-tested c = sym c.before.before.can-put.ensures ∙ not-false _ c.before.if1.false
+tested : (c : After-group_count-count) → can_put c.args.track c.args.group c.args.frames c.args.at (length c.args.buf.now) ≡ true
+tested c = sym c.can_put.ensures ∙ c.if-not-can_put.false
 
-fits : (c : tie.After-group-count)
-    → (end_of c.before.before.before.before.args.track c.before.before.before.before.args.frames ≤ c.before.before.before.before.args.at)
-    × (c.before.before.before.before.args.at + 20 + 4 * (c.before.before.before.before.args.track.channels * c.group-count.result) ≤ length c.before.before.before.before.args.buf.now)
+fits : (c : After-group_count-count)
+    → (end_of c.args.track c.args.frames ≤ c.args.at)
+    × (c.args.at + 20 + 4 * (c.args.track.channels * c.group_count-count.result) ≤ length c.args.buf.now)
 fits c =
-    let a = c.before.before.before.before.args in
+    let a = c.args in
     let s = can-put-says a.track a.group a.frames a.at (length a.buf.now) (tested c) in
-    (s.0, rw c.group-count.ensures (omega (arith, s.1)))
+    (s.0, rw c.group_count-count.ensures (omega (arith, s.1)))
 
 pub returns-then-not-can_put : goal.returns-then-not-can_put
 returns-then-not-can_put c =
@@ -30,34 +31,34 @@ returns-then-not-can_put c =
     (rw refused, rw refused)
 
 pub overflow_mul-size : goal.overflow_mul-size
-overflow_mul-size c = omega (arith, (fits c).1)
+overflow_mul-size c = omega (arith, (fits (goal.at.overflow_mul-size c).After-group_count-count).1)
 
 pub overflow_mul-size-2 : goal.overflow_mul-size-2
-overflow_mul-size-2 c = omega (arith, (fits c).1)
+overflow_mul-size-2 c = omega (arith, (fits (goal.at.overflow_mul-size-2 c).After-group_count-count).1)
 
 pub overflow_add-size : goal.overflow_add-size
-overflow_add-size c = omega (arith, (fits c).1)
+overflow_add-size c = omega (arith, (fits (goal.at.overflow_add-size c).After-group_count-count).1)
 
 pub put_head-requires : goal.put_head-requires
-put_head-requires c = omega (arith, (fits c).1)
+put_head-requires c = omega (arith, (fits (goal.at.put_head-requires c).After-group_count-count).1)
 
 pub overflow_add-at : goal.overflow_add-at
-overflow_add-at c = omega (arith, (fits c).1)
+overflow_add-at c = omega (arith, (fits (goal.at.overflow_add-at c).After-group_count-count).1)
 
 pub put_groups-requires : goal.put_groups-requires
 put_groups-requires c =
-    let f = fits c in
+    let f = fits (goal.at.put_groups-requires c).After-group_count-count in
     (c.group_count-count.ensures, omega (arith, f.0), omega (arith, f.1, c.put_head.auto))
 
 pub returns : goal.returns
 returns c =
     let a = c.args in
     let t = a.track in
-    let f = fits c in
+    let f = fits (goal.at.returns c).After-group_count-count in
     let count = c.group_count-count.ensures in
     let room : a.at + 20 + 4 * (t.channels * group_count a.group a.frames) ≤ length a.buf.now = rw (← count) f.1 in
     let one : c.put_head.new.buf ≡ splice a.buf.now a.at (head (8 + 4 * (t.channels * group_count a.group a.frames)) a.edits a.group) =
     c.put_head.ensures ∙ ap (λ (k : ℕ). splice a.buf.now a.at (head (8 + 4 * (t.channels * k)) a.edits a.group)) count in
     let two : c.put_groups.new.buf ≡ splice c.put_head.new.buf (a.at + 20) (group_pairs t c.put_head.new.buf a.group a.frames (group_count a.group a.frames)) =
     c.put_groups.ensures ∙ ap (λ (k : ℕ). splice c.put_head.new.buf (a.at + 20) (group_pairs t c.put_head.new.buf a.group a.frames k)) count in
-    (rw (tested c), rw (tested c) (chunk-put t a.buf.now c.put_head.new.buf c.put_groups.new.buf a.edits a.group a.frames a.at f.0 room one two))
+    (rw (tested (goal.at.returns c).After-group_count-count), rw (tested (goal.at.returns c).After-group_count-count) (chunk-put t a.buf.now c.put_head.new.buf c.put_groups.new.buf a.edits a.group a.frames a.at f.0 room one two))

@@ -7,14 +7,14 @@ use borrow.Author.Rules.{rules}
 use Rattle.overview.specs.Height.{height_at, lowest, highest}
 use Rattle.overview.proofs.Heights.{first-place, left-above}
 use Rattle.overview.proofs.height.span_of.Goals as goal
+use Rattle.overview.proofs.height.span_of.Goals.{In-loop-i}
 
 -- the next place lies within the slice
-within : (c : tie.In-loop invariant-loop decreases-loop) → c.before.loop.place + c.before.before.before.before.args.step ≤ c.before.before.before.before.args.p + c.before.before.before.before.args.more * c.before.before.before.before.args.step
+within : (c : In-loop-i) → c.loop-i.place + c.args.step ≤ c.args.p + c.args.more * c.args.step
 within c =
-    let l = c.before.loop in
-    let a = c.before.before.before.before.args in
-    let m : suc l.i * a.step ≤ a.more * a.step = mul-le-mul_right a.step (omega arith) in
-    omega (arith, suc-mul l.i a.step)
+    let a = c.args in
+    let m : suc c.loop-i.i * a.step ≤ a.more * a.step = mul-le-mul_right a.step (omega arith) in
+    omega (arith, suc-mul c.loop-i.i a.step)
 
 pub loop-i-init : goal.loop-i-init
 loop-i-init c =
@@ -24,10 +24,10 @@ loop-i-init c =
     (omega arith, z, first, rw (← first) (omega arith), omega arith)
 
 pub overflow_add-place : goal.overflow_add-place
-overflow_add-place c = omega (arith, within c)
+overflow_add-place c = omega (arith, within (goal.at.overflow_add-place c).In-loop-i)
 
 pub height_at-height-requires : goal.height_at-height-requires
-height_at-height-requires c = omega (arith, within c)
+height_at-height-requires c = omega (arith, within (goal.at.height_at-height-requires c).In-loop-i)
 
 pub loop-i-preserved : goal.loop-i-preserved
 loop-i-preserved c =

@@ -9,15 +9,16 @@ use native.Mathlib.Numerals.{add-one}
 use Prim.Native.Nat.{ℕ, suc, ◌+◌, ◌-◌, ◌*◌, ◌≤◌, ◌<◌}
 use mathlib.Core.Path.{◌≡◌, refl, sym, ap, ◌∙◌}
 use Rattle.overview.proofs.pairs.put_group.Goals as goal
+use Rattle.overview.proofs.pairs.put_group.Goals.{After-slice_known-2-1}
 
 -- the first block has put the pairs of its frames
-begun : (c : tie.After-slice-known2 invariant-loop decreases-loop)
-    → c.before.before.put-channels.new.0
-    ≡ splice c.before.before.before.before.before.before.before.args.buf.now c.before.before.before.before.before.before.before.args.at (channel_pairs c.before.before.before.before.before.before.before.args.track c.before.before.before.before.before.before.before.args.buf.now c.before.before.before.before.before.before.before.args.from c.before.before.before.before.fewer.result c.before.before.before.before.before.before.before.args.track.channels)
+begun : (c : After-slice_known-2-1)
+    → c.put_channels.new.buf
+    ≡ splice c.args.buf.now c.args.at (channel_pairs c.args.track c.args.buf.now c.args.from c.fewer-last.result c.args.track.channels)
 begun c =
-    let a = c.before.before.before.before.before.before.before.args in
-    let bytes : (i : ℕ) → get_or a.buf.now i 0 < 256 = λ i. (c.before.before.before.before.before.before.slice-known.given i).fits in
-    c.before.before.put-channels.ensures ∙ ap (splice a.buf.now a.at) (first_block a.track a.buf.now bytes a.at a.from c.before.before.before.before.fewer.result a.track.channels)
+    let a = c.args in
+    let bytes : (i : ℕ) → get_or a.buf.now i 0 < 256 = λ i. (c.slice_known-1.given i).fits in
+    c.put_channels.ensures ∙ ap (splice a.buf.now a.at) (first_block a.track a.buf.now bytes a.at a.from c.fewer-last.result a.track.channels)
 
 pub overflow_mul-block : goal.overflow_mul-block
 overflow_mul-block c = omega arith
@@ -40,7 +41,7 @@ loop-last-init c =
     let last = c.fewer-last.result in
     let f = c.fewer-last.ensures in
     let ends = ends-before a.track (a.from + last + 1) (a.from + a.more + 1) (omega arith) in
-    (omega arith, refl, begun c ∙ sym (put-over a.track a.buf.now c.put_channels.new.buf a.from last last a.at (omega (arith, ends, c.requires.1)) c.requires.2 (begun c)))
+    (omega arith, refl, begun (goal.at.loop-last-init c).After-slice_known-2-1 ∙ sym (put-over a.track a.buf.now c.put_channels.new.buf a.from last last a.at (omega (arith, ends, c.requires.1)) c.requires.2 (begun (goal.at.loop-last-init c).After-slice_known-2-1)))
 
 pub overflow_add-from : goal.overflow_add-from
 overflow_add-from c = omega arith
@@ -78,4 +79,4 @@ returns c =
     let buf = c.put_channels.new.buf in
     let all : c.loop-last.last ≡ a.more = omega arith in
     c.loop-last.invariant.2 ∙ ap (λ (n : ℕ). splice buf a.at (channel_pairs a.track buf a.from n a.track.channels)) all
-    ∙ put-over a.track a.buf.now buf a.from c.fewer-last.result a.more a.at c.requires.1 c.requires.2 (begun c)
+    ∙ put-over a.track a.buf.now buf a.from c.fewer-last.result a.more a.at c.requires.1 c.requires.2 (begun (goal.at.returns c).After-slice_known-2-1)

@@ -13,10 +13,11 @@ use Rattle.overview.proofs.Lengths.{mul_next}
 use Rattle.overview.proofs.SameSamples.{group-first, group-within}
 use Rattle.overview.proofs.Stored.{group-put}
 use Rattle.overview.proofs.pairs.put_groups.Goals as goal
+use Rattle.overview.proofs.pairs.put_groups.Goals.{In-loop-k}
 
 -- the group k is one of those that there are
-there : (c : tie.In-loop invariant-loop decreases-loop) → c.before.loop.k < group_count c.before.before.before.args.group c.before.before.before.args.frames
-there c = omega (arith, c.before.before.before.requires.0)
+there : (c : In-loop-k) → c.loop-k.k < group_count c.args.group c.args.frames
+there c = omega (arith, c.requires.0)
 
 pub loop-k-init : goal.loop-k-init
 loop-k-init c =
@@ -26,17 +27,17 @@ loop-k-init c =
 pub overflow_mul-from : goal.overflow_mul-from
 overflow_mul-from c =
     let a = c.args in
-    omega (arith, (group-first a.group a.frames c.loop-k.k (there c)).1)
+    omega (arith, (group-first a.group a.frames c.loop-k.k (there (goal.at.overflow_mul-from c).In-loop-k)).1)
 
 pub overflow_sub-frames : goal.overflow_sub-frames
 overflow_sub-frames c =
     let a = c.args in
-    omega (arith, (group-first a.group a.frames c.loop-k.k (there c)).1)
+    omega (arith, (group-first a.group a.frames c.loop-k.k (there (goal.at.overflow_sub-frames c).In-loop-k)).1)
 
 pub overflow_sub-more : goal.overflow_sub-more
 overflow_sub-more c =
     let a = c.args in
-    let f = group-first a.group a.frames c.loop-k.k (there c) in
+    let f = group-first a.group a.frames c.loop-k.k (there (goal.at.overflow_sub-more c).In-loop-k) in
     omega (arith, f.0, f.1)
 
 pub overflow_mul-track : goal.overflow_mul-track
@@ -65,8 +66,8 @@ put_group-requires c =
     let n : suc k ≤ a.count = omega arith in
     let up = mul-le-mul_left t.channels n in
     let m = mul_next t.channels k in
-    let w = group-within a.group a.frames k (there c) in
-    let g = group-first a.group a.frames k (there c) in
+    let w = group-within a.group a.frames k (there (goal.at.put_group-requires c).In-loop-k) in
+    let g = group-first a.group a.frames k (there (goal.at.put_group-requires c).In-loop-k) in
     let ends : k * a.group + (c.fewer-more.result - 1) + 1 ≤ a.frames = omega (arith, c.fewer-more.ensures, g.0, g.1) in
     let before = mul-le-mul_right t.channels ends in
     (omega arith, omega arith, omega arith)
@@ -79,7 +80,7 @@ loop-k-preserved c =
     let room : a.at + 4 * (t.channels * group_count a.group a.frames) ≤ length a.buf.now = rw (← c.requires.0) c.requires.2 in (
       omega arith,
       omega (arith, c.put_group.auto),
-      rw add-one (group-put t a.buf.now c.loop-k.buf c.put_group.new.buf a.group a.frames a.at c.loop-k.k (there c) c.requires.1 room c.loop-k.invariant.2 put),
+      rw add-one (group-put t a.buf.now c.loop-k.buf c.put_group.new.buf a.group a.frames a.at c.loop-k.k (there (goal.at.loop-k-preserved c).In-loop-k) c.requires.1 room c.loop-k.invariant.2 put),
     )
 
 pub returns : goal.returns

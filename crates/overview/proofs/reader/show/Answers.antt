@@ -20,8 +20,8 @@ loop-i-init c = (omega arith, refl, refl)
 pub loop-i-preserved : goal.loop-i-preserved
 loop-i-preserved c =
     let a = c.args in
-    let x : to_z w16 (of_z w16 c.Signed-of.result) ≡ signed16 (big_at 2 a.body.now (8 + 2 * c.loop-i.i)) =
-    to_z-of_z w16 c.Signed-of.result (record { sfits = c.Signed-of.type_inv }) ∙ c.Signed-of.ensures ∙ ap signed16 c.number_at.ensures.0 in (
+    let x : to_z w16 (of_z w16 c.signed_of.result) ≡ signed16 (big_at 2 a.body.now (8 + 2 * c.loop-i.i)) =
+    to_z-of_z w16 c.signed_of.result (record { sfits = c.signed_of.type_inv }) ∙ c.signed_of.ensures ∙ ap signed16 c.number_at.ensures.0 in (
       omega arith,
       simp length-set c.loop-i.invariant.1,
       rw (add-one, c.loop-i.invariant.2) (one_more a.body.now a.out.now c.loop-i.i _ x (omega arith)),

@@ -13,7 +13,7 @@ pub returns-in-BigEndian : goal.returns-in-BigEndian
 returns-in-BigEndian c =
     let word = c.args.word in
     let byte : (i : ℕ) → Fits w8 (get_or word i 0) = λ i. elem_Fits w8 w8 word c.well_formed.0.0 i c.well_formed.0.1.1 tt in
-    to_z-of_z w32 c.Signed-of.result (record { sfits = c.Signed-of.type_inv }) ∙ c.Signed-of.ensures
+    to_z-of_z w32 c.signed_of.result (record { sfits = c.signed_of.type_inv }) ∙ c.signed_of.ensures
     ∙ rw c.in-BigEndian.is (ap signed24 (without-last word c.be_u32.result c.be_u32.ensures (byte 3).fits))
 
 pub returns-in-LittleEndian : goal.returns-in-LittleEndian

@@ -8,7 +8,8 @@ pub truncating_f64_to_u64-n-requires : goal.truncating_f64_to_u64-n-requires
 unfolding of_bits
 truncating_f64_to_u64-n-requires c =
     let x = c.args.rate in
-    may-cut x (within x c.if-rate.true c.if-rate-2.true)
+    let m = may-cut x (within x c.if-rate.true c.if-rate-2.true) in
+    record { lower_bound = m.0; upper_bound = m.1 }
 
 pub overflow_cast-result : goal.overflow_cast-result
 unfolding of_bits
