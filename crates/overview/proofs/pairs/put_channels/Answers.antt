@@ -53,8 +53,8 @@ loop-channel-preserved c =
       omega arith,
       omega (arith, c.set_pair.auto),
       rw add-one
-          (channel-put a.first a.track start c.loop-channel.buf c.set_pair.new.buf a.from a.more a.at c.loop-channel.channel c.span_of.result.low c.span_of.result.high
-          (omega arith) c.requires.0 c.requires.1 c.loop-channel.invariant.2 c.span_of.ensures.0 c.span_of.ensures.1 c.set_pair.ensures),
+          (channel-put a.first a.track start c.loop-channel.buf c.set_pair.new.buf a.from a.more a.at c.loop-channel.channel c.span_of-span.result.low c.span_of-span.result.high
+          (omega arith) c.requires.0 c.requires.1 c.loop-channel.invariant.2 c.span_of-span.ensures.0 c.span_of-span.ensures.1 c.set_pair.ensures),
     )
 
 pub returns : goal.returns

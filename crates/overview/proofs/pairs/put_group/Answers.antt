@@ -1,5 +1,7 @@
 use borrow.Author.Rules.{rules}
 use Rattle.overview.proofs.Blocks.{ends-before, first_block, put-over, block-put}
+use Rattle.overview.specs.Height.{block_pairs}
+use mathlib.Core.Bool.{false}
 use Rattle.overview.specs.Put.{end_of}
 use Rattle.overview.specs.Groups.{channel_pairs}
 use Rattle.byte_order.specs.Splice.{splice}
@@ -67,7 +69,9 @@ loop-last-preserved c =
     let f = c.fewer-rest.ensures in
     let ends : end_of a.track (a.from + (suc c.loop-last.last + n) + 1) ≤ a.at = omega (arith, ends-before a.track (a.from + (suc c.loop-last.last + n) + 1) (a.from + a.more + 1) (omega arith), c.requires.1) in
     let room : a.at + 4 * a.track.channels ≤ length start = omega (arith, c.put_channels.auto) in
-    let put = rw add-one at c.put_channels-in-loop-last.ensures in (
+    let next : c.put_channels-in-loop-last.new.buf ≡ splice c.loop-last.buf a.at (block_pairs false a.track c.loop-last.buf a.at (a.from + (c.loop-last.last + 1)) n a.track.channels) =
+    c.put_channels-in-loop-last.ensures in
+    let put = rw add-one at next in (
       omega arith,
       omega (arith, c.put_channels-in-loop-last.auto),
       rw add-one (block-put a.track start c.loop-last.buf bytes a.from c.loop-last.last n a.at ends room c.loop-last.invariant.2 put),
