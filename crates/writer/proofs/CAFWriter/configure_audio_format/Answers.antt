@@ -25,9 +25,9 @@ returns-then-first-ne-DONE c =
     let a = c.args in
     let w = a.self in
     let ls = a.labels.now in
-    let f = format_number a.sample-rate a.channels a.bits-per-channel BigEndian in
+    let f = format_number a.sample_rate a.channels a.bits_per_channel BigEndian in
     let l = labels_number ls a.channels in
-    let after = with_labels (with_format w (pcm_format a.sample-rate a.channels a.bits-per-channel SignedInteger BigEndian) BigEndian) ls a.channels in
+    let after = with_labels (with_format w (pcm_format a.sample_rate a.channels a.bits_per_channel SignedInteger BigEndian) BigEndian) ls a.channels in
     let h = c.if-first-ne-DONE.true in
     refused-answer (first f l) w after (refused-first (first f l) w c.settling-first.ensures h) h
 
@@ -37,12 +37,12 @@ returns-in_default c =
     let a = c.args in
     let w = a.self in
     let ls = a.labels.now in
-    let f = format_number a.sample-rate a.channels a.bits-per-channel BigEndian in
+    let f = format_number a.sample_rate a.channels a.bits_per_channel BigEndian in
     let l = labels_number ls a.channels in
-    let after = with_labels (with_format w (pcm_format a.sample-rate a.channels a.bits-per-channel SignedInteger BigEndian) BigEndian) ls a.channels in
+    let after = with_labels (with_format w (pcm_format a.sample_rate a.channels a.bits_per_channel SignedInteger BigEndian) BigEndian) ls a.channels in
     let set = c.enum_told-1.given in
-    let r = setting-refused a.sample-rate a.channels a.bits-per-channel SignedInteger BigEndian set.0.0 (sym c.pcm_format-set.ensures ∙ set.1) in
-    let n : c.setting_number.result ≡ f = c.setting_number.ensures ∙ ap F.setting_number c.pcm_format-set.ensures ∙ setting-number a.sample-rate a.channels a.bits-per-channel SignedInteger BigEndian in
+    let r = setting-refused a.sample_rate a.channels a.bits_per_channel SignedInteger BigEndian set.0.0 (sym c.pcm_format-set.ensures ∙ set.1) in
+    let n : c.setting_number.result ≡ f = c.setting_number.ensures ∙ ap F.setting_number c.pcm_format-set.ensures ∙ setting-number a.sample_rate a.channels a.bits_per_channel SignedInteger BigEndian in
     let is = n ∙ sym (first-refused f l r.1) ∙ own-counts (first f l) w c.settling-first.ensures c.if-first-ne-DONE.false in
     refused-answer (first f l) w after is (λ z. r.1 (sym n ∙ z))
 
@@ -52,11 +52,11 @@ returns-then-number-ne-DONE c =
     let a = c.args in
     let w = a.self in
     let ls = a.labels.now in
-    let f = format_number a.sample-rate a.channels a.bits-per-channel BigEndian in
+    let f = format_number a.sample_rate a.channels a.bits_per_channel BigEndian in
     let l = labels_number ls a.channels in
-    let after = with_labels (with_format w (pcm_format a.sample-rate a.channels a.bits-per-channel SignedInteger BigEndian) BigEndian) ls a.channels in
+    let after = with_labels (with_format w (pcm_format a.sample_rate a.channels a.bits_per_channel SignedInteger BigEndian) BigEndian) ls a.channels in
     let set = c.set-1.given in
-    let g = setting-given a.sample-rate a.channels a.bits-per-channel SignedInteger BigEndian set.0.0 (sym c.pcm_format-set.ensures ∙ set.1) in
+    let g = setting-given a.sample_rate a.channels a.bits_per_channel SignedInteger BigEndian set.0.0 (sym c.pcm_format-set.ensures ∙ set.1) in
     let is = c.labels_number-number.ensures ∙ sym (first_done f l g.0) ∙ own-counts (first f l) w c.settling-first.ensures c.if-first-ne-DONE.false in
     refused-answer (first f l) w after is c.if-number-ne-DONE.true
 
@@ -69,11 +69,11 @@ returns c =
     let a = c.args in
     let w = a.self in
     let ls = a.labels.now in
-    let f = format_number a.sample-rate a.channels a.bits-per-channel BigEndian in
+    let f = format_number a.sample_rate a.channels a.bits_per_channel BigEndian in
     let l = labels_number ls a.channels in
-    let after = with_labels (with_format w (pcm_format a.sample-rate a.channels a.bits-per-channel SignedInteger BigEndian) BigEndian) ls a.channels in
+    let after = with_labels (with_format w (pcm_format a.sample_rate a.channels a.bits_per_channel SignedInteger BigEndian) BigEndian) ls a.channels in
     let set = c.set-1.given in
-    let g = setting-given a.sample-rate a.channels a.bits-per-channel SignedInteger BigEndian set.0.0 (sym c.pcm_format-set.ensures ∙ set.1) in
+    let g = setting-given a.sample_rate a.channels a.bits_per_channel SignedInteger BigEndian set.0.0 (sym c.pcm_format-set.ensures ∙ set.1) in
     let is = c.labels_number-number.ensures ∙ sym (first_done f l g.0) ∙ own-counts (first f l) w c.settling-first.ensures c.if-first-ne-DONE.false in
     let changed = c.with_format-self.ensures ∙ ap (λ (x : AudioFormat). with_format w x BigEndian) (sym g.1) in
     done-answer (first f l) w after is c.if-number-ne-DONE.false (c.with_labels-self.ensures ∙ ap (λ (x : CAFWriter). with_labels x ls a.channels) changed)
