@@ -34,9 +34,7 @@ returns-in_default c =
     let f = format_number a.sample_rate a.channels a.bits_per_channel BigEndian in
     let l = labels_number ls a.channels in
     let after = with_labels (with_format w (pcm_format a.sample_rate a.channels a.bits_per_channel SignedInteger BigEndian) BigEndian) ls a.channels in
-    let set = c.in_default.not-Format in
-    let hole : ? = ? in
-    let r = setting-refused a.sample_rate a.channels a.bits_per_channel SignedInteger BigEndian set.0.0 (sym c.pcm_format-set.ensures ∙ set.1) in
+    let r = setting-refused a.sample_rate a.channels a.bits_per_channel SignedInteger BigEndian c.in_default.field-0 (sym c.pcm_format-set.ensures ∙ c.in_default.is) in
     let n : c.setting_number.result ≡ f = c.setting_number.ensures ∙ ap F.setting_number c.pcm_format-set.ensures ∙ setting-number a.sample_rate a.channels a.bits_per_channel SignedInteger BigEndian in
     let is = n ∙ sym (first-refused f l r.1) ∙ own-counts (first f l) w c.settling-first.ensures c.if-first-ne-DONE.false in
     refused-answer (first f l) w after is (λ z. r.1 (sym n ∙ z))

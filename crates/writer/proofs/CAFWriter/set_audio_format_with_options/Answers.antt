@@ -26,9 +26,7 @@ returns-in_default c =
     let w = a.self in
     let own = format_number a.sample_rate a.channels a.bits_per_channel a.endianness in
     let after = with_format w (pcm_format a.sample_rate a.channels a.bits_per_channel a.data_type a.endianness) a.endianness in
-    let set = c.in_default.not-Format in
-    let hole : ? = ? in
-    let r = setting-refused a.sample_rate a.channels a.bits_per_channel a.data_type a.endianness set.0.0 (sym c.pcm_format-set.ensures ∙ set.1) in
+    let r = setting-refused a.sample_rate a.channels a.bits_per_channel a.data_type a.endianness c.in_default.field-0 (sym c.pcm_format-set.ensures ∙ c.in_default.is) in
     let n : c.setting_number.result ≡ own = c.setting_number.ensures ∙ ap F.setting_number c.pcm_format-set.ensures ∙ setting-number a.sample_rate a.channels a.bits_per_channel a.data_type a.endianness in
     refused-answer own w after (n ∙ own-counts own w c.settling-first.ensures c.if-first-ne-DONE.false) (λ z. r.1 (sym n ∙ z))
 
