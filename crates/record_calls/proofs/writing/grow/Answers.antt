@@ -17,6 +17,6 @@ unfolding record_of
 returns c =
     let ns = c.args.held.now in
     let p = c.requires in
-    let wide = (c.slice-known.given 1).fits in
+    let wide = (c.slice_known-1.given 1).fits in
     let tidy = c.tidy.ensures ∙ tidied-is ns p.0 wide p.1 in
     c.put.ensures ∙ rw (tidy, c.number_at.ensures, c.number_at-2.ensures) (grown (record_of ns) (labels-long ns p.0) _)

@@ -1,3 +1,0 @@
-pub mod Films
-pub mod Keeping
-pub mod Keeps
