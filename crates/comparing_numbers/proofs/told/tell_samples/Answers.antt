@@ -21,8 +21,8 @@ returns c =
     let w = rw (c.byte_order-o.ensures, c.byte_order-p.ensures) at c.count-first.ensures in
     let last = c.count-first.new.counts in
     let n = length a.counts.now in
-    let counted = counts-there (byte_order a.one-little) a.one.now (byte_order a.two-little) a.two.now a.counts.now last c.count-first.result n refl c.count-first.auto.counts w in
-    let first = first-there (byte_order a.one-little) a.one.now (byte_order a.two-little) a.two.now a.counts.now last c.count-first.result n refl c.count-first.auto.counts w in
+    let counted = counts-there (byte_order a.one_little) a.one.now (byte_order a.two_little) a.two.now a.counts.now last c.count-first.result n refl c.count-first.auto.counts w in
+    let first = first-there (byte_order a.one_little) a.one.now (byte_order a.two_little) a.two.now a.counts.now last c.count-first.result n refl c.count-first.auto.counts w in
     let put = put-fits a.out.now 0 (c.has_frame.result ∷ c.frame_of.result ∷ []) (omega (arith, c.if-out-lt-SAMPLES_PLACES.false)) c.put.ensures in
     let said : (c.has_frame.result ∷ c.frame_of.result ∷ []) ≡ first_numbers c.count-first.result = rw (c.has_frame.ensures, c.frame_of.ensures) in
     record {
