@@ -9,17 +9,17 @@ use borrow.Author.Rules.{rules}
 use Rattle.wave_numbers.proofs.waves.tell_wave_read.Goals as goal
 
 pub returns-then-out-lt-WAVE_PLACES : goal.returns-then-out-lt-WAVE_PLACES
-returns-then-out-lt-WAVE_PLACES c = (rw (lt-ltb _ _ c.if-out-lt-WAVE_PLACES.true), rw (lt-ltb _ _ c.if-out-lt-WAVE_PLACES.true))
+returns-then-out-lt-WAVE_PLACES c = record { value = rw (lt-ltb _ _ c.if-out-lt-WAVE_PLACES.true); out_after = rw (lt-ltb _ _ c.if-out-lt-WAVE_PLACES.true) }
 
 pub returns-in-NotRead : goal.returns-in-NotRead
 returns-in-NotRead c =
     let free = le-ltb _ _ c.if-out-lt-WAVE_PLACES.false in
     let e = sym c.read_wave-read.ensures ∙ c.in-NotRead.is in
-    (rw (free, e), rw (free, e) (sym (splice-nil c.args.out.now 0)))
+    record { value = rw (free, e); out_after = rw (free, e) (sym (splice-nil c.args.out.now 0)) }
 
 pub returns-in-Read : goal.returns-in-Read
 returns-in-Read c =
     let free = le-ltb _ _ c.if-out-lt-WAVE_PLACES.false in
     let e = sym c.read_wave-read.ensures ∙ c.in-Read.is in
-    let p = c.read-1.given.0 in
-    (rw (free, e), rw (free, e) (put-fits c.args.out.now 0 (wave_numbers (Read p.0 p.1.0)) (omega arith) c.put.ensures))
+    let p = c.in-Read in
+    record { value = rw (free, e); out_after = rw (free, e) (put-fits c.args.out.now 0 (wave_numbers (Read p.w p.start)) (omega arith) c.put.ensures) }
