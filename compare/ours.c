@@ -1,12 +1,10 @@
 /* Our code behind a pipe: reads requests from standard input, calls libcaf.a and writes the answers to standard output.
  *
- * libcaf.a is for x86-64, and the Rust text runs on whatever processor the comparison runs on; a program of its own
- * lets them meet (elsewhere it runs under the emulator of the kit). src/ours.rs is its only caller. Numbers are
- * big-endian; README.md gives the bytes of each call.
+ * src/ours.rs is its only caller. Numbers are big-endian; README.md gives the bytes of each call.
  */
 #include "caf.h"
 
-/* The C library's, by hand: where this file is compiled for another processor, its headers are not there. */
+/* The C library's, by hand. */
 long read(int fd, void *bytes, size_t count);
 long write(int fd, const void *bytes, size_t count);
 _Noreturn void _exit(int status);

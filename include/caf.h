@@ -58,8 +58,7 @@ enum caf_number {
     CAF_DATA_BEGUN = 33
 };
 
-/* Bytes of stack that a caller must have left, on x86-64 and on aarch64. tests/stack prints what each
- * call takes. */
+/* Bytes of stack that a caller must have left, on x86-64. tests/stack prints what each call takes. */
 enum { CAF_STACK = 4096 };
 
 /* Bytes of the longest header, that of 64 described channels. A layout by tag makes 92, no layout 68. */

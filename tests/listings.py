@@ -5,7 +5,7 @@ import pathlib
 import termios
 import time
 
-PROGRAM = [pathlib.Path(__file__).resolve().parent.parent / 'tools' / 'program', 'list']
+PROGRAM = [pathlib.Path(__file__).resolve().parent.parent / 'target' / 'bin' / 'list']
 
 
 def listing(length, size_position, payload, state, frames, channels=2, packet=6, bits=24, layout='none'):

@@ -6,8 +6,7 @@
  * table against include/caf.h. */
 #include "caf.h"
 
-/* The C library's, by hand: where this file is compiled for another processor, its headers are not there. The kinds and constants
- * are those of Linux on x86-64 and aarch64. */
+/* The C library's, by hand. The kinds and constants are those of Linux on x86-64. */
 int printf(const char *form, ...);
 int strcmp(const char *a, const char *b);
 _Noreturn void exit(int status);
@@ -23,25 +22,20 @@ int pthread_join(unsigned long thread, void **answer);
 enum { NO_RIGHTS = 0, READ_WRITE = 3, PRIVATE_NO_FILE = 0x22 };
 
 enum {
-    LEAST = 128 << 10, /* the C library of aarch64 takes no smaller stack for a thread */
+    LEAST = 128 << 10, /* some C libraries take no smaller stack for a thread */
     SMALL = 16 << 10   /* of it is there: the rest is the guard */
 };
 
 /* The bounds of the calls that look labels up, alone and in a setting; of all others CAF_STACK is the bound. Measured were 152 and 1688
- * bytes on x86-64, 128 and 2656 on aarch64. */
+ * bytes, of what the older kit built. */
 enum {
-#ifdef __x86_64__
     LOOKUP = 160,
     SETTING = 2640
-#else
-    LOOKUP = 144,
-    SETTING = 2736
-#endif
 };
 
 /* ---- what the calls are lent */
 
-/* LONG: one byte more than the short one of the arrays that a copy goes through (byteorder) */
+/* LONG: one byte more than the short one of the arrays that a copy goes through (byte_order) */
 enum { LONG = (64 << 10) + 1, ROOM = 512 + LONG };
 
 static uint64_t record[CAF_RECORD], feeder[CAF_FEEDER], place[CAF_CHAN_PLACES], out[CAF_STRICT_PLACES];
@@ -295,11 +289,7 @@ static size_t depth_of_nothing, depths[ROWS];
 __attribute__((noinline)) static size_t depth(uint32_t (*call)(void)) {
     volatile uint64_t *sp, *at;
 
-#ifdef __x86_64__
     __asm__ volatile("mov %%rsp, %0" : "=r"(sp));
-#else
-    __asm__ volatile("mov %0, sp" : "=r"(sp));
-#endif
     for (at = low; at < sp; at++) *at = ~(uint64_t)at;
     holds(call() == CAF_DONE, "a call was refused");
     for (at = low; at < sp && *at == ~(uint64_t)at; at++)

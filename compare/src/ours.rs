@@ -48,10 +48,9 @@ pub struct Ours {
 }
 
 impl Ours {
-    /// Starts the program, on any processor.
+    /// Starts the program.
     pub fn start(program: &str) -> Self {
-        let mut child = Command::new("compare/x86")
-            .arg(program)
+        let mut child = Command::new(program)
             .stdin(Stdio::piped())
             .stdout(Stdio::piped())
             .spawn()

@@ -11,7 +11,7 @@ returns-then-number-ne-DONE c = rw (← c.overview_number-number.ensures, ne_eqb
 pub store_overview-requires : goal.store_overview-requires
 store_overview-requires c =
     let a = c.args in
-    let ok = allowed a.audio a.group a.sound a.has-header a.finished a.overview (length a.buf.now) (sym c.overview_number-number.ensures ∙ c.if-number-ne-DONE.false) in
+    let ok = allowed a.audio a.group a.sound a.has_header a.finished a.overview (length a.buf.now) (sym c.overview_number-number.ensures ∙ c.if-number-ne-DONE.false) in
     (ok.whole, ok.in-file)
 
 pub returns : goal.returns

@@ -1,3 +1,5 @@
+use mathlib.Core.Path.{ap}
+use mathlib.Core.Bool.{not}
 use Rattle.appending.proofs.Measured.{past_room, in_both}
 use Rattle.overview.specs.Body.{chunk_length}
 use Prim.Native.Nat.{◌+◌}
@@ -8,9 +10,9 @@ use Rattle.appending.proofs.append.is_too_long_with_it.Goals as goal
 pub returns-then-not-chunk_room : goal.returns-then-not-chunk_room
 returns-then-not-chunk_room c =
     let a = c.args in
-    sym (past_room (a.len + chunk_length a.channels a.group a.frames) a.room c.chunk_room.ensures c.if-not-chunk_room.true)
+    sym (past_room (a.len + chunk_length a.channels a.group a.frames) a.room c.chunk_room.ensures (ap not c.if-not-chunk_room.true))
 
 pub returns : goal.returns
 returns c =
     let a = c.args in
-    in_both (a.len + chunk_length a.channels a.group a.frames) a.room c.chunk_room.ensures c.if-not-chunk_room.false c.chunk_room-2.ensures
+    in_both (a.len + chunk_length a.channels a.group a.frames) a.room c.chunk_room.ensures (ap not c.if-not-chunk_room.false) c.chunk_room-2.ensures

@@ -1,7 +1,7 @@
 use Rattle.appending.specs.Append.{length_as, number_as}
 use Rattle.answers.specs.Numbers.{done, no_room_left, wrong_width}
 use mathlib.Core.Bool.{cond, not}
-use Rattle.appending.specs.Audio.{isWhole, size_of}
+use Rattle.appending.specs.Audio.{is_whole, size_of}
 use Rattle.refusals.specs.Numbers.{exceeds}
 use borrow.Author.Tests.{eq-eqb, ne_eqb, not-false}
 use Prim.Native.Nat.{◌+◌}
@@ -16,7 +16,7 @@ at_width : (c : After-is_whole)
     ≡ cond (not c.is_whole.result) wrong_width (cond (exceeds (c.args.audio.end + length_as c.args.audio c.args.group) c.args.room) no_room_left done)
 at_width c =
     let a = c.args.audio in
-    let whole : c.is_whole.result ≡ isWhole a.format (size_of a) = rw c.less-payload.ensures at c.is_whole.ensures in
+    let whole : c.is_whole.result ≡ is_whole a.format (size_of a) = rw c.less-payload.ensures at c.is_whole.ensures in
     rw (c.if-not-sound.false, c.if-not-has_header.false, c.if-not-finished.false, c.if-overview.false, ne_eqb _ _ c.if-group-eq0.false, whole)
 
 -- and the room

@@ -6,11 +6,11 @@ use Rattle.feeder.proofs.end.end.Goals as goal
 
 pub returns-then-not-is_sound : goal.returns-then-not-is_sound
 unfolding end
-returns-then-not-is_sound c = rw (← c.is_sound.ensures, not-true c.is_sound.result c.if-not-is_sound.true)
+returns-then-not-is_sound c = rw (← c.is_sound.ensures, c.if-not-is_sound.true)
 
 pub end_of-requires : goal.end_of-requires
 end_of-requires c = sym c.is_sound.ensures ∙ c.if-not-is_sound.false
 
 pub returns : goal.returns
 unfolding end
-returns c = rw (← c.is_sound.ensures, not-false c.is_sound.result c.if-not-is_sound.false) c.end_of_lem.ensures
+returns c = rw (← c.is_sound.ensures, c.if-not-is_sound.false) c.end_of.ensures

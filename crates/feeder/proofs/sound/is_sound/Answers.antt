@@ -10,11 +10,11 @@ returns-then-r-gt-FILE_MAX c = rw (lt-leb _ _ c.if-r-gt-FILE_MAX.true)
 
 pub returns-then-not-held_few : goal.returns-then-not-held_few
 unfolding sound
-returns-then-not-held_few c = rw (le-leb _ _ c.if-r-gt-FILE_MAX.false, ← c.piece_size.ensures, ← c.held_few.ensures, not-true c.held_few.result c.if-not-held_few.true)
+returns-then-not-held_few c = rw (le-leb _ _ c.if-r-gt-FILE_MAX.false, ← c.piece_size.ensures, ← c.held_few.ensures, c.if-not-held_few.true)
 
 pub phase_sound-requires : goal.phase_sound-requires
 phase_sound-requires c = rw (← c.piece_size.ensures) (leb-true _ _ (sym c.held_few.ensures ∙ c.if-not-held_few.false))
 
 pub returns : goal.returns
 unfolding sound
-returns c = rw (le-leb _ _ c.if-r-gt-FILE_MAX.false, ← c.piece_size.ensures, ← c.held_few.ensures, not-false c.held_few.result c.if-not-held_few.false) c.phase_sound.ensures
+returns c = rw (le-leb _ _ c.if-r-gt-FILE_MAX.false, ← c.piece_size.ensures, ← c.held_few.ensures, c.if-not-held_few.false) c.phase_sound.ensures

@@ -5,16 +5,16 @@ use Rattle.feeder.proofs.sound.skipping_sound.Goals as goal
 
 pub returns-then-not-headers_before : goal.returns-then-not-headers_before
 unfolding phase_sound
-returns-then-not-headers_before c = rw (← c.headers_before.ensures, not-true c.headers_before.result c.if-not-headers_before.true)
+returns-then-not-headers_before c = rw (← c.headers_before.ensures, c.if-not-headers_before.true)
 
 pub returns-then-not-passed_within : goal.returns-then-not-passed_within
 unfolding phase_sound
-returns-then-not-passed_within c = rw (← c.headers_before.ensures, not-false c.headers_before.result c.if-not-headers_before.false, ← c.passed_within.ensures, not-true c.passed_within.result c.if-not-passed_within.true)
+returns-then-not-passed_within c = rw (← c.headers_before.ensures, c.if-not-headers_before.false, ← c.passed_within.ensures, c.if-not-passed_within.true)
 
 pub returns-then-left-lt1 : goal.returns-then-left-lt1
 unfolding phase_sound
-returns-then-left-lt1 c = rw (← c.headers_before.ensures, not-false c.headers_before.result c.if-not-headers_before.false, ← c.passed_within.ensures, not-false c.passed_within.result c.if-not-passed_within.false, lt-leb _ _ c.if-left-lt1.true)
+returns-then-left-lt1 c = rw (← c.headers_before.ensures, c.if-not-headers_before.false, ← c.passed_within.ensures, c.if-not-passed_within.false, lt-leb _ _ c.if-left-lt1.true)
 
 pub returns : goal.returns
 unfolding phase_sound
-returns c = rw (← c.headers_before.ensures, not-false c.headers_before.result c.if-not-headers_before.false, ← c.passed_within.ensures, not-false c.passed_within.result c.if-not-passed_within.false, le-leb _ _ c.if-left-lt1.false)
+returns c = rw (← c.headers_before.ensures, c.if-not-headers_before.false, ← c.passed_within.ensures, c.if-not-passed_within.false, le-leb _ _ c.if-left-lt1.false)

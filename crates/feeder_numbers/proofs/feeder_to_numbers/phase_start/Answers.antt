@@ -2,7 +2,7 @@ use borrow.Author.Rules.{rules}
 use Rattle.feeder_numbers.proofs.feeder_to_numbers.phase_start.Goals as goal
 
 pub returns-in-Header : goal.returns-in-Header
-returns-in-Header c = rw c.in-Header.is c.Passed-start.ensures
+returns-in-Header c = rw c.in-Header.is c.passed_start.ensures
 
 pub returns-in-Skipping : goal.returns-in-Skipping
 returns-in-Skipping c = rw c.in-Skipping.is c.passed_start-in-Skipping.ensures

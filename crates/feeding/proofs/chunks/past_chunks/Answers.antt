@@ -18,6 +18,9 @@ returns-then-w-eq0 c = let a = c.args in past-none a.s.now a.r
 pub overflow_add-last : goal.overflow_add-last
 overflow_add-last c = let a = c.args in let l = walked-lies a.s.now _ c.walk-w.ensures c.if-w-eq0.false in omega (arith, l.0)
 
+pub slice_bounds-store-end-2 : goal.slice_bounds-store-end-2
+slice_bounds-store-end-2 c = let a = c.args in let l = walked-lies a.s.now _ c.walk-w.ensures c.if-w-eq0.false in omega (arith, l.0)
+
 pub overflow_add-result : goal.overflow_add-result
 overflow_add-result c = let a = c.args in let l = walked-lies a.s.now _ c.walk-w.ensures c.if-w-eq0.false in omega (arith, l.1, c.requires.0)
 

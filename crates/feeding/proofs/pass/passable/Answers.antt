@@ -8,7 +8,7 @@ use Rattle.feeding.proofs.pass.passable.Goals as goal
 
 pub returns-then-not-is_sound : goal.returns-then-not-is_sound
 unfolding passable
-returns-then-not-is_sound c = rw (← c.is_sound.ensures, not-true c.is_sound.result c.if-not-is_sound.true)
+returns-then-not-is_sound c = rw (← c.is_sound.ensures, c.if-not-is_sound.true)
 
 pub overflow_sub-r : goal.overflow_sub-r
 overflow_sub-r c = (sound-facts c.args.r (sym c.is_sound.ensures ∙ c.if-not-is_sound.false)).total

@@ -5,12 +5,12 @@ use Rattle.judging.proofs.judge.judged_first.Goals as goal
 
 pub returns-then-not-stands_at : goal.returns-then-not-stands_at
 unfolding judged
-returns-then-not-stands_at c = rw (← c.stands_at.ensures, not-true c.stands_at.result c.if-not-stands_at.true)
+returns-then-not-stands_at c = rw (← c.stands_at.ensures, c.if-not-stands_at.true)
 
 pub returns-then-be_u64 : goal.returns-then-be_u64
 unfolding judged
-returns-then-be_u64 c = rw (← c.stands_at.ensures, not-false c.stands_at.result c.if-not-stands_at.false, ← c.be_u64.ensures, ne_eqb _ _ c.if-be_u64.true)
+returns-then-be_u64 c = rw (← c.stands_at.ensures, c.if-not-stands_at.false, ← c.be_u64.ensures, ne_eqb _ _ c.if-be_u64.true)
 
 pub returns : goal.returns
 unfolding judged
-returns c = rw (← c.stands_at.ensures, not-false c.stands_at.result c.if-not-stands_at.false, ← c.be_u64.ensures, eq-eqb _ _ c.if-be_u64.false)
+returns c = rw (← c.stands_at.ensures, c.if-not-stands_at.false, ← c.be_u64.ensures, eq-eqb _ _ c.if-be_u64.false)

@@ -71,10 +71,12 @@ loop-last-preserved c =
     let room : a.at + 4 * a.track.channels ≤ length start = omega (arith, c.put_channels.auto) in
     let next : c.put_channels-in-loop-last.new.buf ≡ splice c.loop-last.buf a.at (block_pairs false a.track c.loop-last.buf a.at (a.from + (c.loop-last.last + 1)) n a.track.channels) =
     c.put_channels-in-loop-last.ensures in
-    let put = rw add-one at next in (
+    let put = rw add-one at next in
+    let done : c.put_channels-in-loop-last.new.buf ≡ splice start a.at (channel_pairs a.track start a.from (c.loop-last.last + 1 + n) a.track.channels) =
+    rw add-one (block-put a.track start c.loop-last.buf bytes a.from c.loop-last.last n a.at ends room c.loop-last.invariant.2 put) in (
       omega arith,
       omega (arith, c.put_channels-in-loop-last.auto),
-      rw add-one (block-put a.track start c.loop-last.buf bytes a.from c.loop-last.last n a.at ends room c.loop-last.invariant.2 put),
+      done,
     )
 
 pub returns : goal.returns

@@ -13,4 +13,4 @@ returns c =
     let a = c.args in
     let k = record-held a.held.now c.record_in-kept.ensures c.if-not-kept.false in
     let p = rw (k.1, c.sample_type-data_type.ensures, c.byte_order-endianness.ensures) at c.set_audio_format_with_options-wrote.ensures in
-    record-set a.held.now (λ (w : CAFWriter). format_call w a.rate a.channels a.bits (sample_type a.is-float) (byte_order a.little_endian)) k.0 p c.keep.ensures.0 c.keep.ensures.1
+    record-set a.held.now (λ (w : CAFWriter). format_call w a.rate a.channels a.bits (sample_type a.is_float) (byte_order a.little_endian)) k.0 p c.keep.ensures.0 c.keep.ensures.1

@@ -44,7 +44,7 @@ returns-then-not-places c =
       ← c.number_at-4.ensures,
       ← c.number_at-5.ensures,
       ← c.places_sound-places.ensures,
-      not-true c.places_sound-places.result c.if-not-places.true,
+      c.if-not-places.true,
     )
 
 pub format_of-format-requires : goal.format_of-format-requires
@@ -66,12 +66,12 @@ returns-then-not-format_sound c =
       ← c.number_at-4.ensures,
       ← c.number_at-5.ensures,
       ← c.places_sound-places.ensures,
-      not-false c.places_sound-places.result c.if-not-places.false,
+      c.if-not-places.false,
       ← c.format_of-format.ensures,
       ← c.number_at-6.ensures,
       ← c.order_of-endianness.ensures,
       ← c.format_sound.ensures,
-      not-true c.format_sound.result c.if-not-format_sound.true,
+      c.if-not-format_sound.true,
     )
 
 pub layout_sound-requires : goal.layout_sound-requires
@@ -91,11 +91,11 @@ returns c =
       ← c.number_at-4.ensures,
       ← c.number_at-5.ensures,
       ← c.places_sound-places.ensures,
-      not-false c.places_sound-places.result c.if-not-places.false,
+      c.if-not-places.false,
       ← c.format_of-format.ensures,
       ← c.number_at-6.ensures,
       ← c.order_of-endianness.ensures,
       ← c.format_sound.ensures,
-      not-false c.format_sound.result c.if-not-format_sound.false,
+      c.if-not-format_sound.false,
     )
     c.layout_sound.ensures

@@ -11,12 +11,6 @@ use Rattle.writer.specs.Settings.{first, with_labels, configure_call}
 use Rattle.writer.specs.declared.CAFWriter.{CAFWriter}
 use Rattle.writer.proofs.Settling.{refused-answer, done-answer, refused-first, own-counts, first-refused, first_done}
 use borrow.Author.Rules.{rules}
-use Rattle.format.proofs.setting.pcm_format.Reads as pcm-format-reads
-use Rattle.format.proofs.setting.setting_number.Reads as setting-number-reads
-use Rattle.layout.proofs.setting.labels_number.Reads as labels-number-reads
-use Rattle.writer.proofs.CAFWriter.settling.Reads as settling-reads
-use Rattle.writer.proofs.CAFWriter.with_format.Reads as with-format-reads
-use Rattle.writer.proofs.CAFWriter.with_labels.Reads as with-labels-reads
 use Rattle.writer.proofs.CAFWriter.configure_audio_format.Goals as goal
 
 pub returns-then-first-ne-DONE : goal.returns-then-first-ne-DONE
@@ -25,9 +19,9 @@ returns-then-first-ne-DONE c =
     let a = c.args in
     let w = a.self in
     let ls = a.labels.now in
-    let f = format_number a.sample-rate a.channels a.bits-per-channel BigEndian in
+    let f = format_number a.sample_rate a.channels a.bits_per_channel BigEndian in
     let l = labels_number ls a.channels in
-    let after = with_labels (with_format w (pcm_format a.sample-rate a.channels a.bits-per-channel SignedInteger BigEndian) BigEndian) ls a.channels in
+    let after = with_labels (with_format w (pcm_format a.sample_rate a.channels a.bits_per_channel SignedInteger BigEndian) BigEndian) ls a.channels in
     let h = c.if-first-ne-DONE.true in
     refused-answer (first f l) w after (refused-first (first f l) w c.settling-first.ensures h) h
 
@@ -37,12 +31,11 @@ returns-in_default c =
     let a = c.args in
     let w = a.self in
     let ls = a.labels.now in
-    let f = format_number a.sample-rate a.channels a.bits-per-channel BigEndian in
+    let f = format_number a.sample_rate a.channels a.bits_per_channel BigEndian in
     let l = labels_number ls a.channels in
-    let after = with_labels (with_format w (pcm_format a.sample-rate a.channels a.bits-per-channel SignedInteger BigEndian) BigEndian) ls a.channels in
-    let set = c.enum_told-1.given in
-    let r = setting-refused a.sample-rate a.channels a.bits-per-channel SignedInteger BigEndian set.0.0 (sym c.pcm_format-set.ensures ∙ set.1) in
-    let n : c.setting_number.result ≡ f = c.setting_number.ensures ∙ ap F.setting_number c.pcm_format-set.ensures ∙ setting-number a.sample-rate a.channels a.bits-per-channel SignedInteger BigEndian in
+    let after = with_labels (with_format w (pcm_format a.sample_rate a.channels a.bits_per_channel SignedInteger BigEndian) BigEndian) ls a.channels in
+    let r = setting-refused a.sample_rate a.channels a.bits_per_channel SignedInteger BigEndian c.in_default.field-0 (sym c.pcm_format-set.ensures ∙ c.in_default.is) in
+    let n : c.setting_number.result ≡ f = c.setting_number.ensures ∙ ap F.setting_number c.pcm_format-set.ensures ∙ setting-number a.sample_rate a.channels a.bits_per_channel SignedInteger BigEndian in
     let is = n ∙ sym (first-refused f l r.1) ∙ own-counts (first f l) w c.settling-first.ensures c.if-first-ne-DONE.false in
     refused-answer (first f l) w after is (λ z. r.1 (sym n ∙ z))
 
@@ -52,11 +45,10 @@ returns-then-number-ne-DONE c =
     let a = c.args in
     let w = a.self in
     let ls = a.labels.now in
-    let f = format_number a.sample-rate a.channels a.bits-per-channel BigEndian in
+    let f = format_number a.sample_rate a.channels a.bits_per_channel BigEndian in
     let l = labels_number ls a.channels in
-    let after = with_labels (with_format w (pcm_format a.sample-rate a.channels a.bits-per-channel SignedInteger BigEndian) BigEndian) ls a.channels in
-    let set = c.set-1.given in
-    let g = setting-given a.sample-rate a.channels a.bits-per-channel SignedInteger BigEndian set.0.0 (sym c.pcm_format-set.ensures ∙ set.1) in
+    let after = with_labels (with_format w (pcm_format a.sample_rate a.channels a.bits_per_channel SignedInteger BigEndian) BigEndian) ls a.channels in
+    let g = setting-given a.sample_rate a.channels a.bits_per_channel SignedInteger BigEndian c.in-Format.format (sym c.pcm_format-set.ensures ∙ c.in-Format.is) in
     let is = c.labels_number-number.ensures ∙ sym (first_done f l g.0) ∙ own-counts (first f l) w c.settling-first.ensures c.if-first-ne-DONE.false in
     refused-answer (first f l) w after is c.if-number-ne-DONE.true
 
@@ -69,11 +61,10 @@ returns c =
     let a = c.args in
     let w = a.self in
     let ls = a.labels.now in
-    let f = format_number a.sample-rate a.channels a.bits-per-channel BigEndian in
+    let f = format_number a.sample_rate a.channels a.bits_per_channel BigEndian in
     let l = labels_number ls a.channels in
-    let after = with_labels (with_format w (pcm_format a.sample-rate a.channels a.bits-per-channel SignedInteger BigEndian) BigEndian) ls a.channels in
-    let set = c.set-1.given in
-    let g = setting-given a.sample-rate a.channels a.bits-per-channel SignedInteger BigEndian set.0.0 (sym c.pcm_format-set.ensures ∙ set.1) in
+    let after = with_labels (with_format w (pcm_format a.sample_rate a.channels a.bits_per_channel SignedInteger BigEndian) BigEndian) ls a.channels in
+    let g = setting-given a.sample_rate a.channels a.bits_per_channel SignedInteger BigEndian c.in-Format.format (sym c.pcm_format-set.ensures ∙ c.in-Format.is) in
     let is = c.labels_number-number.ensures ∙ sym (first_done f l g.0) ∙ own-counts (first f l) w c.settling-first.ensures c.if-first-ne-DONE.false in
     let changed = c.with_format-self.ensures ∙ ap (λ (x : AudioFormat). with_format w x BigEndian) (sym g.1) in
     done-answer (first f l) w after is c.if-number-ne-DONE.false (c.with_labels-self.ensures ∙ ap (λ (x : CAFWriter). with_labels x ls a.channels) changed)

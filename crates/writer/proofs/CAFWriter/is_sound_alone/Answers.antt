@@ -11,19 +11,19 @@ returns-then-self-gt-FILE_MAX c = rw (lt-leb _ _ c.if-self-gt-FILE_MAX.true)
 
 pub returns-then-not-places : goal.returns-then-not-places
 unfolding places_sound
-returns-then-not-places c = sym (places-fail c.args.self c.if-self-gt-FILE_MAX.false (sym c.places_sound-places.ensures ∙ not-true c.places_sound-places.result c.if-not-places.true))
+returns-then-not-places c = sym (places-fail c.args.self c.if-self-gt-FILE_MAX.false (sym c.places_sound-places.ensures ∙ c.if-not-places.true))
 
 pub returns-then-not-format_sound : goal.returns-then-not-format_sound
 unfolding places_sound format_sound
 returns-then-not-format_sound c =
     sym
-    (format-fails c.args.self c.if-self-gt-FILE_MAX.false (sym c.places_sound-places.ensures ∙ not-false c.places_sound-places.result c.if-not-places.false)
-    (sym c.format_sound.ensures ∙ not-true c.format_sound.result c.if-not-format_sound.true))
+    (format-fails c.args.self c.if-self-gt-FILE_MAX.false (sym c.places_sound-places.ensures ∙ c.if-not-places.false)
+    (sym c.format_sound.ensures ∙ c.if-not-format_sound.true))
 
 pub returns : goal.returns
 unfolding places_sound format_sound
 returns c =
     c.layout_sound.ensures
     ∙ sym
-    (layout-decides c.args.self c.if-self-gt-FILE_MAX.false (sym c.places_sound-places.ensures ∙ not-false c.places_sound-places.result c.if-not-places.false)
-    (sym c.format_sound.ensures ∙ not-false c.format_sound.result c.if-not-format_sound.false))
+    (layout-decides c.args.self c.if-self-gt-FILE_MAX.false (sym c.places_sound-places.ensures ∙ c.if-not-places.false)
+    (sym c.format_sound.ensures ∙ c.if-not-format_sound.false))

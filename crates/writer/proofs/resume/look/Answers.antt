@@ -16,8 +16,8 @@ returns-then-is_too_long c = rw (← c.is_too_long.ensures, c.if-is_too_long.tru
 
 pub slice_bounds-parse_caf_file-end : goal.slice_bounds-parse_caf_file-end
 slice_bounds-parse_caf_file-end c =
-    let a = c.args in let n = neither (ltb (length a.buf.now) a.file-len) (ltb file_max a.file-len) (sym c.is_too_long.ensures ∙ c.if-is_too_long.false) in
-    sym (length-take-le a.file-len a.buf.now (ltb-false _ _ n.0))
+    let a = c.args in let n = neither (ltb (length a.buf.now) a.file_len) (ltb file_max a.file_len) (sym c.is_too_long.ensures ∙ c.if-is_too_long.false) in
+    sym (length-take-le a.file_len a.buf.now (ltb-false _ _ n.0))
 
 pub returns-in_default : goal.returns-in_default
 unfolding resumed
@@ -25,16 +25,16 @@ returns-in_default c = rw (← c.is_too_long.ensures, c.if-is_too_long.false, �
 
 pub slice_bounds-tail_number-end : goal.slice_bounds-tail_number-end
 slice_bounds-tail_number-end c =
-    let a = c.args in let n = neither (ltb (length a.buf.now) a.file-len) (ltb file_max a.file-len) (sym c.is-too-long.ensures ∙ c.if-is_too_long.false) in
-    sym (length-take-le a.file-len a.buf.now (ltb-false _ _ n.0))
+    let a = c.args in let n = neither (ltb (length a.buf.now) a.file_len) (ltb file_max a.file_len) (sym c.is_too_long.ensures ∙ c.if-is_too_long.false) in
+    sym (length-take-le a.file_len a.buf.now (ltb-false _ _ n.0))
 
 pub tail_number-tail-requires : goal.tail_number-tail-requires
-tail_number-tail-requires c = let a = c.args in found_within (take a.file-len a.buf.now) (sym c.in-Found.is ∙ c.parse_caf_file-answer.ensures)
+tail_number-tail-requires c = let a = c.args in found_within (take a.file_len a.buf.now) (sym c.in-Found.is ∙ c.parse_caf_file-answer.ensures)
 
 pub returns-then-tail-ne-DONE : goal.returns-then-tail-ne-DONE
 unfolding resumed
-returns-then-tail-ne-DONE c = rw (← c.is-too-long.ensures, c.if-is_too_long.false, ← c.parse_caf_file-answer.ensures, c.in-Found.is, ← c.tail_number-tail.ensures, ne_eqb _ _ c.if-tail-ne-DONE.true) c.refused_with-then-tail-ne-DONE.ensures
+returns-then-tail-ne-DONE c = rw (← c.is_too_long.ensures, c.if-is_too_long.false, ← c.parse_caf_file-answer.ensures, c.in-Found.is, ← c.tail_number-tail.ensures, ne_eqb _ _ c.if-tail-ne-DONE.true) c.refused_with-then-tail-ne-DONE.ensures
 
 pub returns : goal.returns
 unfolding resumed
-returns c = rw (← c.is-too-long.ensures, c.if-is_too_long.false, ← c.parse_caf_file-answer.ensures, c.in-Found.is, ← c.tail_number-tail.ensures, eq-eqb _ _ c.if-tail-ne-DONE.false, c.reopen.ensures)
+returns c = rw (← c.is_too_long.ensures, c.if-is_too_long.false, ← c.parse_caf_file-answer.ensures, c.in-Found.is, ← c.tail_number-tail.ensures, eq-eqb _ _ c.if-tail-ne-DONE.false, c.reopen.ensures)
