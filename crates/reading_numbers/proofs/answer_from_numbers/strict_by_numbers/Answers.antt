@@ -12,5 +12,5 @@ pub returns : goal.returns
 returns c =
     let s = c.args.file.now in
     let bytes : Bytes s = all-bytes s (λ i. (c.shared_slice_known-1.given i).fits) in
-    let same : strict_of c.tell_strict-number.result c.tell_strict-number.new.out ≡ strict s = rw (c.tell_strict-number.ensures.0, c.tell_strict-number.ensures.1) (strict-back s (replicate 13 0) bytes (omega arith)) in
-    c.Strict-of.ensures ∙ same
+    let same : strict_of c.tell_strict-number.result c.tell_strict-number.new.out ≡ strict s = rw (c.tell_strict-number.ensures.value, c.tell_strict-number.ensures.out_after) (strict-back s (replicate 13 0) bytes (omega arith)) in
+    c.strict_of.ensures ∙ same

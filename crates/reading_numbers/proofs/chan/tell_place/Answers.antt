@@ -10,7 +10,7 @@ use borrow.Author.Rules.{rules}
 use Rattle.reading_numbers.proofs.chan.tell_place.Goals as goal
 
 pub returns-then-out-lt-PLACE_PLACES : goal.returns-then-out-lt-PLACE_PLACES
-returns-then-out-lt-PLACE_PLACES c = let t = lt-ltb _ _ c.if-out-lt-PLACE_PLACES.true in (rw t, rw t)
+returns-then-out-lt-PLACE_PLACES c = let t = lt-ltb _ _ c.if-out-lt-PLACE_PLACES.true in record { value = rw t; out_after = rw t }
 
 pub returns : goal.returns
 returns c =
@@ -18,4 +18,4 @@ returns c =
     let out = c.args.out.now in
     let place = find_chan c.args.file.now in
     let e = c.place_numbers-numbers.ensures ∙ ap place_numbers c.find_chan-place.ensures in
-    (rw t, rw t (put-fits out 0 (place_numbers place) (omega (arith, place-long place, c.if-out-lt-PLACE_PLACES.false)) (c.put.ensures ∙ ap (put_at out 0) e)))
+    record { value = rw t; out_after = rw t (put-fits out 0 (place_numbers place) (omega (arith, place-long place, c.if-out-lt-PLACE_PLACES.false)) (c.put.ensures ∙ ap (put_at out 0) e)) }

@@ -8,7 +8,7 @@ use borrow.Author.Rules.{rules}
 use Rattle.reading_numbers.proofs.readings.tell_strict.Goals as goal
 
 pub returns-then-out-lt-STRICT_PLACES : goal.returns-then-out-lt-STRICT_PLACES
-returns-then-out-lt-STRICT_PLACES c = (rw (lt-ltb _ _ c.if-out-lt-STRICT_PLACES.true), rw (lt-ltb _ _ c.if-out-lt-STRICT_PLACES.true))
+returns-then-out-lt-STRICT_PLACES c = record { value = rw (lt-ltb _ _ c.if-out-lt-STRICT_PLACES.true); out_after = rw (lt-ltb _ _ c.if-out-lt-STRICT_PLACES.true) }
 
 pub returns : goal.returns
-returns c = let t = le-ltb _ _ c.if-out-lt-STRICT_PLACES.false in (rw t (c.put_answer.ensures.0 ∙ ap strict_number c.read_strict-answer.ensures), rw t (c.put_answer.ensures.1 ∙ ap (λ (x : StrictAnswer). splice c.args.out.now 0 (strict_numbers x)) c.read_strict-answer.ensures))
+returns c = let t = le-ltb _ _ c.if-out-lt-STRICT_PLACES.false in record { value = rw t (c.put_answer.ensures.0 ∙ ap strict_number c.read_strict-answer.ensures); out_after = rw t (c.put_answer.ensures.1 ∙ ap (λ (x : StrictAnswer). splice c.args.out.now 0 (strict_numbers x)) c.read_strict-answer.ensures) }
