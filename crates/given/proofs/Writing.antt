@@ -45,14 +45,14 @@ module _ (w : CAFWriter) (room : ℕ) where
       (λ s. let ok = not-false (sound w room) s in
       either (FinishGives w room) w.finished (λ f. FinishGives.again ok f)
       (λ f. let g : Going w room = record { is-sound = ok; not-finished = f } in
-      either (FinishGives w room) (not w.has_header) (λ h. FinishGives.no_Header g (not-true w.has_header h))
+      either (FinishGives w room) (not w.has_header) (λ h. FinishGives.no-header g (not-true w.has_header h))
       (λ h. FinishGives.accepted g (not-false w.has_header h))))
 
   pub finish-row : (number : ℕ) → FinishGives w room number → finish_number w room ≡ number
   unfolding finish_number
   finish-row number (FinishGives.unsound s) = rw s
   finish-row number (FinishGives.again s f) = rw (s, f)
-  finish-row number (FinishGives.no_Header g h) = rw (g.is-sound, g.not-finished, h)
+  finish-row number (FinishGives.no-header g h) = rw (g.is-sound, g.not-finished, h)
   finish-row number (FinishGives.accepted g h) = rw (g.is-sound, g.not-finished, h)
 
 module _ (w : CAFWriter) (room n : ℕ) where
@@ -66,7 +66,7 @@ module _ (w : CAFWriter) (room n : ℕ) where
       (λ s. let ok = not-false (sound w room) s in
       either (DataGives w room n) w.finished (λ f. DataGives.after_finish ok f)
       (λ f. let g : Going w room = record { is-sound = ok; not-finished = f } in
-      either (DataGives w room n) (not w.has_header) (λ h. DataGives.no_Header g (not-true w.has_header h))
+      either (DataGives w room n) (not w.has_header) (λ h. DataGives.no-header g (not-true w.has_header h))
       (λ h. let there = not-false w.has_header h in
       either (DataGives w room n) (exceeds end room) (λ x. DataGives.no_room g there (too_long end room x))
       (λ x. DataGives.accepted g there (fits end room x)))))
@@ -75,7 +75,7 @@ module _ (w : CAFWriter) (room n : ℕ) where
   unfolding data_number
   data-row number (DataGives.unsound s) = rw s
   data-row number (DataGives.after_finish s f) = rw (s, f)
-  data-row number (DataGives.no_Header g h) = rw (g.is-sound, g.not-finished, h)
+  data-row number (DataGives.no-header g h) = rw (g.is-sound, g.not-finished, h)
   data-row number (DataGives.no_room g h x) = rw (g.is-sound, g.not-finished, h, longer end room x)
   data-row number (DataGives.accepted g h x) = rw (g.is-sound, g.not-finished, h, within end room x)
 
@@ -86,7 +86,7 @@ module _ (w : CAFWriter) (room n : ℕ) where
       (λ s. let ok = not-false (sound w room) s in
       either (SamplesGives w room n) w.finished (λ f. SamplesGives.after_finish ok f)
       (λ f. let g : Going w room = record { is-sound = ok; not-finished = f } in
-      either (SamplesGives w room n) (not w.has_header) (λ h. SamplesGives.no_Header g (not-true w.has_header h))
+      either (SamplesGives w room n) (not w.has_header) (λ h. SamplesGives.no-header g (not-true w.has_header h))
       (λ h. let there = not-false w.has_header h in
       either (SamplesGives w room n) (is_absent w.format) (λ a. SamplesGives.no-format g there (absent w.format a))
       (λ a. either (SamplesGives w room n) (exceeds end room) (λ x. SamplesGives.no_room g there (present w.format a) (too_long end room x))
@@ -96,7 +96,7 @@ module _ (w : CAFWriter) (room n : ℕ) where
   unfolding samples_number
   samples-row number (SamplesGives.unsound s) = rw s
   samples-row number (SamplesGives.after_finish s f) = rw (s, f)
-  samples-row number (SamplesGives.no_Header g h) = rw (g.is-sound, g.not-finished, h)
+  samples-row number (SamplesGives.no-header g h) = rw (g.is-sound, g.not-finished, h)
   samples-row number (SamplesGives.no-format g h a) = rw (g.is-sound, g.not-finished, h, ap is_absent a)
   samples-row number (SamplesGives.no_room g h p x) = rw (g.is-sound, g.not-finished, h, is-present w.format p, longer end room x)
   samples-row number (SamplesGives.accepted g h p x) = rw (g.is-sound, g.not-finished, h, is-present w.format p, within end room x)

@@ -9,10 +9,6 @@ use lib.Seq.{length-take-le}
 use borrow.Author.Rules.{rules}
 use Rattle.cut_films.proofs.calls.cut_last.Goals as goal
 
-slice-aggregate-write-pcm-24bit-as-packed-counted :
-    tie.Need-slice-aggregate-write-pcm-24bit-as-packed-counted
-slice-aggregate-write-pcm-24bit-as-packed-counted c = search rules
-
 pub slice_bounds-write_data_counted-end : goal.slice_bounds-write_data_counted-end
 slice_bounds-write_data_counted-end c = let k : length c.audio-all.result ≡ 251 = search rules in sym (length-take-le 1 c.audio-all.result (omega arith))
 

@@ -2,10 +2,6 @@ use Rattle.cut_films.proofs.Settled.{format-set, none, tagged, described}
 use borrow.Author.Rules.{rules}
 use Rattle.cut_films.proofs.settings.with_settings.Goals as goal
 
-slice-aggregate-set-channel-layout-for-labels :
-    tie.Need-slice-aggregate-set-channel-layout-for-labels
-slice-aggregate-set-channel-layout-for-labels c = search rules
-
 pub returns-in-0 : goal.returns-in-0
 returns-in-0 c = none c.args.layout c.set_audio_format_with_options-set.result.writer (format-set c.new.result c.set_audio_format_with_options-set.result c.new.ensures c.set_audio_format_with_options-set.ensures) c.in-0.is
 
