@@ -1,7 +1,6 @@
 use lib.Seq.{length-take-le}
 use Rattle.comparing.proofs.AnswerLaws.{one-narrow, two-narrow, others, too_few, given}
 use Rattle.difference.specs.Compared.{side_of}
-use borrow.Author.Tests.{not-true, not-false}
 use mathlib.Core.Path.{sym, ◌∙◌}
 use borrow.Author.Rules.{rules}
 use Rattle.comparing.proofs.compare.by_sides.Goals as goal

@@ -7,15 +7,18 @@ use borrow.Author.Rules.{rules}
 use Rattle.conversion.proofs.plan.file_head.Goals as goal
 
 pub overflow_add-end : goal.overflow_add-end
-overflow_add-end c = let p = c.place-1.given in omega (arith, found_within c.args.caf.now p.0.0 p.0.1.0 (sym c.find_chan-place.ensures ∙ p.1))
+overflow_add-end c = let p = c.in-At in omega (arith, found_within c.args.caf.now p.start p.size (sym c.find_chan-place.ensures ∙ p.is))
 
 pub slice_bounds-head_with-count : goal.slice_bounds-head_with-count
-slice_bounds-head_with-count c = let p = c.place-1.given in omega (arith, found_within c.args.caf.now p.0.0 p.0.1.0 (sym c.find_chan-place.ensures ∙ p.1))
+slice_bounds-head_with-count c = let p = c.in-At in omega (arith, found_within c.args.caf.now p.start p.size (sym c.find_chan-place.ensures ∙ p.is))
+
+pub slice_bounds-head_with-end : goal.slice_bounds-head_with-end
+slice_bounds-head_with-end c = let p = c.in-At in omega (arith, found_within c.args.caf.now p.start p.size (sym c.find_chan-place.ensures ∙ p.is))
 
 pub returns-in-At : goal.returns-in-At
 returns-in-At c =
-    let p = c.place-1.given in
-    c.head_with.ensures ∙ ap (head_of_file c.args.info) (chan-at c.args.caf.now p.0.0 p.0.1.0 (sym c.find_chan-place.ensures ∙ p.1))
+    let p = c.in-At in
+    c.head_with.ensures ∙ ap (head_of_file c.args.info) (chan-at c.args.caf.now p.start p.size (sym c.find_chan-place.ensures ∙ p.is))
 
 pub returns-in-Nowhere : goal.returns-in-Nowhere
 returns-in-Nowhere c = c.head_without.ensures ∙ ap (head_of_file c.args.info) (chan-nowhere c.args.caf.now (sym c.find_chan-place.ensures ∙ c.in-Nowhere.is))

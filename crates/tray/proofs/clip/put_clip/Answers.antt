@@ -25,5 +25,5 @@ keeps (Rejected number k) = refl
 pub returns : goal.returns
 returns c =
     let a = c.args in
-    let same : kept c.tell_strict-number.result c.tell_strict-number.new.out ≡ numbers_of (strict a.clip.now) = rw (c.tell_strict-number.ensures.0, c.tell_strict-number.ensures.1) (keeps (strict a.clip.now)) in
+    let same : kept c.tell_strict-number.result c.tell_strict-number.new.out ≡ numbers_of (strict a.clip.now) = rw (c.tell_strict-number.ensures.value, c.tell_strict-number.ensures.out_after) (keeps (strict a.clip.now)) in
     c.put.ensures ∙ ap (put_at a.out.now a.at) same

@@ -9,9 +9,6 @@ use Rattle.byte_order.proofs.Laws.{splice-nil}
 use Rattle.tray.specs.Tray.{clips_in}
 use Rattle.tray.specs.Reading.{rows_from, answers_for}
 use Rattle.tray.proofs.Puts.{row-fit, put-more, clip-cut}
-use Rattle.tray.proofs.clip.put_clip.Reads as put-clip-reads
-use Rattle.tray.proofs.table.size_at.Reads as size-at-reads
-use Rattle.tray.proofs.table.start_at.Reads as start-at-reads
 use Rattle.tray.proofs.read.put_clips.Goals as goal
 
 -- src/read.rt:54:5
@@ -29,6 +26,14 @@ overflow_add-end c =
 -- src/read.rt:57:18
 pub slice_bounds-put_clip-count : goal.slice_bounds-put_clip-count
 slice_bounds-put_clip-count c =
+    let h = row-fit c.args.s.now c.args.first (length c.args.s.now) c.args.n c.loop-i.i c.requires.2 (omega arith) in
+    let x = c.start_at-start.ensures in
+    let y = c.size_at.ensures in
+    omega arith
+
+-- src/read.rt:57:18
+pub slice_bounds-put_clip-end : goal.slice_bounds-put_clip-end
+slice_bounds-put_clip-end c =
     let h = row-fit c.args.s.now c.args.first (length c.args.s.now) c.args.n c.loop-i.i c.requires.2 (omega arith) in
     let x = c.start_at-start.ensures in
     let y = c.size_at.ensures in

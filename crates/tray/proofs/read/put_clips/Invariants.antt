@@ -9,9 +9,6 @@ use Rattle.byte_order.proofs.Laws.{splice-nil}
 use Rattle.tray.specs.Tray.{clips_in}
 use Rattle.tray.specs.Reading.{rows_from, answers_for}
 use Rattle.tray.proofs.Puts.{row-fit, put-more, clip-cut}
-use Rattle.tray.proofs.clip.put_clip.Reads as put-clip-reads
-use Rattle.tray.proofs.table.size_at.Reads as size-at-reads
-use Rattle.tray.proofs.table.start_at.Reads as start-at-reads
 use Rattle.tray.proofs.read.put_clips.Given as goal
 
 abbrev pub invariant-loop-i : goal.invariant-loop-i

@@ -4,10 +4,6 @@ use native.Mathlib.Omega.{arith}
 use lib.ListN.{length}
 use Rattle.tray.proofs.Number.{told-done, enough, put-done, put-none}
 use borrow.Author.Rules.{rules}
-use Rattle.byte_order.proofs.read.be_u32.Reads as be-u32-reads
-use Rattle.tray.proofs.read.put_clips.Reads as put-clips-reads
-use Rattle.tray.proofs.read.tray_number.Reads as tray-number-reads
-use Rattle.tray.proofs.table.row_place.Reads as row-place-reads
 use Rattle.tray.proofs.read.read_tray.Goals as goal
 
 -- src/read.rt:67:25

@@ -1,8 +1,5 @@
 use Rattle.tray.proofs.Number.{short, many, cut, unfit, no_room, all_done}
 use borrow.Author.Rules.{rules}
-use Rattle.byte_order.proofs.read.be_u32.Reads as be-u32-reads
-use Rattle.tray.proofs.table.row_place.Reads as row-place-reads
-use Rattle.tray.proofs.table.rows_fit.Reads as rows-fit-reads
 use Rattle.tray.proofs.read.tray_number.Goals as goal
 
 -- src/read.rt:27:9

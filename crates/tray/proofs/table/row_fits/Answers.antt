@@ -2,8 +2,6 @@ use lib.ListN.{length}
 use Rattle.tray.specs.Reading.{row_at}
 use Rattle.tray.proofs.Puts.{fits_low, fits-past, fits-size}
 use borrow.Author.Rules.{rules}
-use Rattle.tray.proofs.table.size_at.Reads as size-at-reads
-use Rattle.tray.proofs.table.start_at.Reads as start-at-reads
 use Rattle.tray.proofs.table.row_fits.Goals as goal
 
 -- src/table.rt:45:9

@@ -6,7 +6,6 @@ use lib.ListN.{length}
 use borrow.Author.Rules.{rules}
 use Rattle.tray.specs.Reading.{rows_from, all_fit}
 use Rattle.tray.proofs.Puts.{fits-begin, fits-no, fits_on, fits-end}
-use Rattle.tray.proofs.table.row_fits.Reads as row-fits-reads
 use Rattle.tray.proofs.table.rows_fit.Goals as goal
 
 -- src/table.rt:58:5

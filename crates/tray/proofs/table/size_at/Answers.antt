@@ -1,7 +1,5 @@
 use Rattle.byte_order.specs.Big.{big_at}
 use borrow.Author.Rules.{rules}
-use Rattle.byte_order.proofs.read.be_u64.Reads as be-u64-reads
-use Rattle.tray.proofs.table.row_place.Reads as row-place-reads
 use Rattle.tray.proofs.table.size_at.Goals as goal
 
 -- src/table.rt:30:1

@@ -1,8 +1,6 @@
 use native.Mathlib.Omega.{arith}
 use Rattle.tray.proofs.Writes.{too_many, wrong-sum, no_place, has-place}
 use borrow.Author.Rules.{rules}
-use Rattle.tray.proofs.table.row_place.Reads as row-place-reads
-use Rattle.tray.proofs.write.sums_to.Reads as sums-to-reads
 use Rattle.tray.proofs.write.making_number.Goals as goal
 
 -- src/write.rt:65:9

@@ -1,6 +1,5 @@
 use Rattle.tray.proofs.Writes.{row-stored}
 use borrow.Author.Rules.{rules}
-use Rattle.byte_order.proofs.put.put_u64.Reads as put-u64-reads
 use Rattle.tray.proofs.write.put_row.Goals as goal
 
 -- src/write.rt:30:1

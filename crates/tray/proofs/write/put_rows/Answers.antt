@@ -9,8 +9,6 @@ use Rattle.byte_order.proofs.Laws.{splice-nil}
 use Rattle.tray.specs.Tray.{rows_bytes}
 use Rattle.tray.specs.Making.{placed, sum}
 use Rattle.tray.proofs.Writes.{sum_drop, sum-take, sum-parts, rows_on, rows_end}
-use Rattle.tray.proofs.table.row_place.Reads as row-place-reads
-use Rattle.tray.proofs.write.put_row.Reads as put-row-reads
 use Rattle.tray.proofs.write.put_rows.Goals as goal
 
 -- src/write.rt:45:5

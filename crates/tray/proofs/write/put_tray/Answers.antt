@@ -2,10 +2,6 @@ use native.Mathlib.Omega.{arith}
 use lib.ListN.{length}
 use Rattle.tray.proofs.Writes.{allowed, tray-stored}
 use borrow.Author.Rules.{rules}
-use Rattle.byte_order.proofs.put.put_u32.Reads as put-u32-reads
-use Rattle.byte_order.proofs.store.store.Reads as store-reads
-use Rattle.tray.proofs.table.row_place.Reads as row-place-reads
-use Rattle.tray.proofs.write.put_rows.Reads as put-rows-reads
 use Rattle.tray.proofs.write.put_tray.Goals as goal
 
 -- src/write.rt:85:9

@@ -1,7 +1,5 @@
 use Rattle.tray.proofs.Writes.{made-done, made_none}
 use borrow.Author.Rules.{rules}
-use Rattle.tray.proofs.write.making_number.Reads as making-number-reads
-use Rattle.tray.proofs.write.put_tray.Reads as put-tray-reads
 use Rattle.tray.proofs.write.write_tray.Goals as goal
 
 -- src/write.rt:91:1

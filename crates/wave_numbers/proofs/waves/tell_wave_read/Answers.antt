@@ -21,5 +21,5 @@ pub returns-in-Read : goal.returns-in-Read
 returns-in-Read c =
     let free = le-ltb _ _ c.if-out-lt-WAVE_PLACES.false in
     let e = sym c.read_wave-read.ensures ∙ c.in-Read.is in
-    let p = c.read-1.given.0 in
-    record { value = rw (free, e); out_after = rw (free, e) (put-fits c.args.out.now 0 (wave_numbers (Read p.0 p.1.0)) (omega arith) c.put.ensures) }
+    let p = c.in-Read in
+    record { value = rw (free, e); out_after = rw (free, e) (put-fits c.args.out.now 0 (wave_numbers (Read p.w p.start)) (omega arith) c.put.ensures) }
