@@ -51,5 +51,5 @@ pub fn starts_with(out: &[u8], wanted: &[u8]) -> bool
     if out.len() < n {
         return false;
     }
-    check::same(&out[..n], wanted)
+    &out[..n] == wanted
 }

@@ -8,94 +8,98 @@ use reading::plain::parse_caf_file;
 use reading::strict::read_strict;
 use refusals::of_reading::plain_number;
 use show::{decimal, newline, word};
+use std::io;
 use writer::CAFWriter;
 
-fn number(v: u64) {
-    word(b" ");
-    decimal(v);
+fn number(rt: &impl Print, v: u64) -> io::Result<()> {
+    word(rt, b" ")?;
+    decimal(rt, v)
 }
 
-fn show_session(last: u32, n: usize) {
-    number(last as u64);
-    word(b"/");
-    decimal(n as u64);
+fn show_session(rt: &impl Print, last: u32, n: usize) -> io::Result<()> {
+    number(rt, last as u64)?;
+    word(rt, b"/")?;
+    decimal(rt, n as u64)
 }
 
-fn show_film(film: Film) {
+fn show_film(rt: &impl Print, film: Film) -> io::Result<()> {
     let lasts = film.lasts;
     let stores = film.stores;
-    decimal(film.layout as u64);
+    decimal(rt, film.layout as u64)?;
     for session in 0..SESSIONS {
         if session < film.count {
-            show_session(lasts[session], stores[session]);
+            show_session(rt, lasts[session], stores[session])?;
         }
     }
+    Ok(())
 }
 
-fn show_answer(answer: StrictAnswer) {
+fn show_answer(rt: &impl Print, answer: StrictAnswer) -> io::Result<()> {
     match answer {
-        StrictAnswer::Rejected(refusal, _) => number(refusal as u64),
+        StrictAnswer::Rejected(refusal, _) => number(rt, refusal as u64),
         StrictAnswer::Accepted(info, _) => {
-            number(DONE as u64);
+            number(rt, DONE as u64)?;
             if info.open {
-                word(b" open");
+                word(rt, b" open")?;
             } else {
-                word(b" closed");
+                word(rt, b" closed")?;
             }
-            number(info.payload as u64);
+            number(rt, info.payload as u64)
         }
     }
 }
 
 // Of the first n bytes of a buffer: their digest, and their two readings.
-fn show_digest(buf: &[u8], n: usize) {
+fn show_digest(rt: &impl Print, buf: &[u8], n: usize) -> io::Result<()> {
     if n <= buf.len() {
-        number(digest(&buf[..n]));
+        number(rt, digest(&buf[..n]))?;
     }
+    Ok(())
 }
 
-fn show_plain(buf: &[u8], n: usize) {
-    word(b" |");
+fn show_plain(rt: &impl Print, buf: &[u8], n: usize) -> io::Result<()> {
+    word(rt, b" |")?;
     if n <= buf.len() {
-        number(plain_number(parse_caf_file(&buf[..n])) as u64);
+        number(rt, plain_number(parse_caf_file(&buf[..n])) as u64)?;
     }
+    Ok(())
 }
 
-fn show_strict(buf: &[u8], n: usize) {
-    word(b" |");
+fn show_strict(rt: &impl Print, buf: &[u8], n: usize) -> io::Result<()> {
+    word(rt, b" |")?;
     if n <= buf.len() {
-        show_answer(read_strict(&buf[..n]));
+        show_answer(rt, read_strict(&buf[..n]))?;
     }
+    Ok(())
 }
 
 // A resume, and where it is not refused a finish.
-fn show_recovery(buf: &mut [u8], len: usize) {
-    word(b" |");
+fn show_recovery(rt: &impl Print, buf: &mut [u8], len: usize) -> io::Result<()> {
+    word(rt, b" |")?;
     let resumed = CAFWriter::from_existing_file(buf, len);
-    number(resumed.number as u64);
+    number(rt, resumed.number as u64)?;
     if resumed.number != DONE {
-        show_digest(buf, len);
-        return;
+        return show_digest(rt, buf, len);
     }
     let closed = resumed.writer.finish(buf);
-    number(closed.number as u64);
+    number(rt, closed.number as u64)?;
     let len = closed.writer.file_len;
-    show_digest(buf, len);
-    show_strict(buf, len);
+    show_digest(rt, buf, len)?;
+    show_strict(rt, buf, len)
 }
 
-pub(crate) fn show(film: Film) {
+pub(crate) fn show(rt: &impl Print, film: Film) -> io::Result<()> {
     let mut space = [0u8; ROOM];
     let buf: &mut [u8] = &mut space;
     let left = make(film, buf);
-    show_film(film);
-    word(b" |");
-    number(left.number as u64);
-    number(left.stores as u64);
-    number(left.file_len as u64);
-    show_digest(buf, left.file_len);
-    show_plain(buf, left.file_len);
-    show_strict(buf, left.file_len);
-    show_recovery(buf, left.file_len);
-    newline();
+    show_film(rt, film)?;
+    word(rt, b" |")?;
+    number(rt, left.number as u64)?;
+    number(rt, left.stores as u64)?;
+    number(rt, left.file_len as u64)?;
+    show_digest(rt, buf, left.file_len)?;
+    show_plain(rt, buf, left.file_len)?;
+    show_strict(rt, buf, left.file_len)?;
+    show_recovery(rt, buf, left.file_len)?;
+    newline(rt)
 }

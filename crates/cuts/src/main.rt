@@ -18,56 +18,60 @@ mod session;
 use cut_films::calls::LAST_CALLS;
 use cut_films::film::{Film, started, then};
 use session::ROOM;
+use std::io;
 
 // Every cut of one more session with this last call, from no store up to one more than it has.
-fn cut_everywhere(film: Film, last: u32) {
+fn cut_everywhere(rt: &impl Print, film: Film, last: u32) -> io::Result<()> {
     let stores = session::stores_of(film, last);
     let mut n: usize = 0;
     while n < ROOM {
-        line::show(then(film, last, n));
+        line::show(rt, then(film, last, n))?;
         if stores < n {
-            return;
+            return Ok(());
         }
         n += 1;
     }
+    Ok(())
 }
 
 // One more session, with every last call and every cut.
-fn one_more(film: Film) {
+fn one_more(rt: &impl Print, film: Film) -> io::Result<()> {
     for last in 0..LAST_CALLS {
-        cut_everywhere(film, last);
+        cut_everywhere(rt, film, last)?;
     }
+    Ok(())
 }
 
 // Two more sessions: the first with this last call and every cut, the other with every last call and every cut.
-fn two_more(film: Film, last: u32) {
+fn two_more(rt: &impl Print, film: Film, last: u32) -> io::Result<()> {
     let stores = session::stores_of(film, last);
     let mut n: usize = 0;
     while n < ROOM {
-        one_more(then(film, last, n));
+        one_more(rt, then(film, last, n))?;
         if stores <= n {
-            return;
+            return Ok(());
         }
         n += 1;
     }
+    Ok(())
 }
 
-fn main() {
+fn main(rt: HostRuntime) -> io::Result<()> {
     // one session: no layout, a tag, descriptions
-    one_more(started(0));
-    one_more(started(1));
-    one_more(started(2));
+    one_more(&rt, started(0))?;
+    one_more(&rt, started(1))?;
+    one_more(&rt, started(2))?;
     // two sessions: after a header that is cut, at its first and at its last store; after data that are cut; after a finish that is cut
     let film = started(0);
-    one_more(then(film, 0, 1));
-    one_more(then(film, 0, 67));
-    two_more(film, 1);
-    two_more(film, 2);
-    two_more(film, 4);
-    two_more(film, 6);
+    one_more(&rt, then(film, 0, 1))?;
+    one_more(&rt, then(film, 0, 67))?;
+    two_more(&rt, film, 1)?;
+    two_more(&rt, film, 2)?;
+    two_more(&rt, film, 4)?;
+    two_more(&rt, film, 6)?;
     // three sessions, the first a finished film: a resume that is cut, or data, or a finish, and then one more session
     let film = then(started(2), 4, 8);
-    two_more(film, 0);
-    two_more(film, 2);
-    two_more(film, 5);
+    two_more(&rt, film, 0)?;
+    two_more(&rt, film, 2)?;
+    two_more(&rt, film, 5)
 }

@@ -1,5 +1,6 @@
 // The calls of the film, and each by both sets.
 use show::word;
+use std::io;
 use writer::{CAFWriter, Wrote};
 
 // The calls. The tag is one that is not known; PACKET_TOO_BIG and LABEL_UNKNOWN are configure calls that are refused for it.
@@ -86,13 +87,13 @@ pub(crate) fn lent(what: u32, w: CAFWriter, buf: &mut [u8]) -> Wrote {
     }
 }
 
-pub(crate) fn show_name(what: u32) {
+pub(crate) fn show_name(rt: &impl Print, what: u32) -> io::Result<()> {
     match what {
-        TAG => word(b"tag"),
-        HEADER => word(b"header"),
-        DATA | TOO_MUCH => word(b"data"),
-        SAMPLES => word(b"samples"),
-        FINISH => word(b"finish"),
-        _ => word(b"configure"),
+        TAG => word(rt, b"tag"),
+        HEADER => word(rt, b"header"),
+        DATA | TOO_MUCH => word(rt, b"data"),
+        SAMPLES => word(rt, b"samples"),
+        FINISH => word(rt, b"finish"),
+        _ => word(rt, b"configure"),
     }
 }

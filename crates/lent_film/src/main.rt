@@ -9,6 +9,7 @@ use calls::{CALLS, FILM, by_value, lent, show_name};
 use reading::StrictAnswer;
 use reading::strict::read_strict;
 use show::{decimal, newline, word};
+use std::io;
 use writer::{CAFWriter, Wrote};
 
 // The length of the two buffers.
@@ -39,43 +40,43 @@ fn reading_of(buf: &[u8], len: usize) -> StrictAnswer {
     read_strict(&buf[..len])
 }
 
-fn show_reading(answer: StrictAnswer) {
+fn show_reading(rt: &impl Print, answer: StrictAnswer) -> io::Result<()> {
     match answer {
         StrictAnswer::Accepted(info, _) => {
-            word(b" payload ");
-            decimal(info.payload as u64);
+            word(rt, b" payload ")?;
+            decimal(rt, info.payload as u64)?;
             if info.open {
-                word(b" open");
+                word(rt, b" open")?;
             } else {
-                word(b" closed");
+                word(rt, b" closed")?;
             }
-            word(b" frames ");
-            decimal(info.frames as u64);
+            word(rt, b" frames ")?;
+            decimal(rt, info.frames as u64)
         }
         StrictAnswer::Rejected(number, _) => {
-            word(b" rejected ");
-            decimal(number as u64);
+            word(rt, b" rejected ")?;
+            decimal(rt, number as u64)
         }
     }
 }
 
 // Prints what the record by value came to.
-fn show_wrote(a: Wrote, buf: &[u8]) {
+fn show_wrote(rt: &impl Print, a: Wrote, buf: &[u8]) -> io::Result<()> {
     let w = a.writer;
     let stats = w.stats();
-    word(b" ");
-    decimal(a.number as u64);
-    word(b" count ");
-    decimal(stats.data_count as u64);
+    word(rt, b" ")?;
+    decimal(rt, a.number as u64)?;
+    word(rt, b" count ")?;
+    decimal(rt, stats.data_count as u64)?;
     if stats.finished {
-        word(b" finished");
+        word(rt, b" finished")?;
     }
-    word(b" file ");
-    decimal(w.file_len as u64);
-    show_reading(reading_of(buf, w.file_len));
+    word(rt, b" file ")?;
+    decimal(rt, w.file_len as u64)?;
+    show_reading(rt, reading_of(buf, w.file_len))
 }
 
-fn main() {
+fn main(rt: HostRuntime) -> io::Result<()> {
     let mut one: [u8; ROOM] = [0; ROOM];
     let mut two: [u8; ROOM] = [0; ROOM];
     let mut v = CAFWriter::new();
@@ -85,16 +86,17 @@ fn main() {
         let what = FILM[i];
         let a = by_value(what, v, &mut one);
         let b = lent(what, w, &mut two);
-        show_name(what);
-        show_wrote(a, &one);
+        show_name(&rt, what)?;
+        show_wrote(&rt, a, &one)?;
         if same_answer(a, b) {
-            if check::same(&one, &two) {
-                word(b" same");
+            if one == two {
+                word(&rt, b" same")?;
             }
         }
-        newline();
+        newline(&rt)?;
         v = a.writer;
         w = b.writer;
         i += 1;
     }
+    Ok(())
 }

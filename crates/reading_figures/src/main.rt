@@ -13,6 +13,7 @@ use digest::every_cut;
 use pieces::{PIECES, put};
 use show::{newline, word};
 use shown::{both_answers, number};
+use std::io;
 
 // The digest of all files that go on from `at` with one piece more.
 fn one_more(slots: &[u8], file: &mut [u8], at: usize, so_far: u64) -> u64
@@ -46,37 +47,38 @@ fn two_more(slots: &[u8], file: &mut [u8], at: usize) -> u64
 }
 
 // The rest of a line, after the names of the file's pieces.
-fn line(slots: &[u8], file: &mut [u8], at: usize)
+fn line(rt: &impl Print, slots: &[u8], file: &mut [u8], at: usize) -> io::Result<()>
     requires { at ≤ length file.old }
     ensures { length file.new ≡ length file.old }
 {
-    both_answers(file, at);
-    word(b" after");
-    number(two_more(slots, file, at));
-    newline();
+    both_answers(rt, file, at)?;
+    word(rt, b" after")?;
+    number(rt, two_more(slots, file, at))?;
+    newline(rt)
 }
 
 // The letter of a piece.
-fn letter(i: usize)
+fn letter(rt: &impl Print, i: usize) -> io::Result<()>
     requires { i ≤ 13 }
 {
     let one = [97 + i as u8];
-    word(&one);
+    word(rt, &one)
 }
 
 // A line for each piece after the first `at` bytes, whose pieces have these names.
-fn lines(slots: &[u8], file: &mut [u8], names: &[u8], at: usize)
+fn lines(rt: &impl Print, slots: &[u8], file: &mut [u8], names: &[u8], at: usize) -> io::Result<()>
     requires { at ≤ length file.old }
     ensures { length file.new ≡ length file.old }
 {
     let mut i: usize = 0;
     while i < PIECES {
         let end = put(slots, i, file, at);
-        word(names);
-        letter(i);
-        line(slots, file, end);
+        word(rt, names)?;
+        letter(rt, i)?;
+        line(rt, slots, file, end)?;
         i += 1;
     }
+    Ok(())
 }
 
 // The file headers are the first pieces: one of version 1 and one of another.
@@ -85,16 +87,17 @@ const HEADER: usize = 0;
 const HEADERS: usize = 2;
 
 // The lines of the files that begin with a file header.
-fn begun(slots: &[u8], file: &mut [u8])
+fn begun(rt: &impl Print, slots: &[u8], file: &mut [u8]) -> io::Result<()>
     ensures { length file.new ≡ length file.old }
 {
     let mut i: usize = 0;
     while i < HEADERS {
         let at = put(slots, i, file, 0);
         let names = [97 + i as u8];
-        lines(slots, file, &names, at);
+        lines(rt, slots, file, &names, at)?;
         i += 1;
     }
+    Ok(())
 }
 
 // A whole `desc` and a closed `data`, by their numbers among the pieces.
@@ -103,27 +106,27 @@ const DESC: usize = 2;
 const DATA: usize = 10;
 
 // The lines of the files that begin with a file header and a `desc`, and of those that go on after closed data.
-fn described(slots: &[u8], file: &mut [u8])
+fn described(rt: &impl Print, slots: &[u8], file: &mut [u8]) -> io::Result<()>
     ensures { length file.new ≡ length file.old }
 {
     let header = put(slots, HEADER, file, 0);
     let at = put(slots, DESC, file, header);
-    lines(slots, file, b"ac", at);
+    lines(rt, slots, file, b"ac", at)?;
     let tail = put(slots, DATA, file, at);
-    lines(slots, file, b"ack", tail);
+    lines(rt, slots, file, b"ack", tail)
 }
 
-fn run(slots: &[u8], file: &mut [u8]) {
-    word(b"-");
-    line(slots, file, 0);
-    lines(slots, file, b"", 0);
-    begun(slots, file);
-    described(slots, file);
+fn run(rt: &impl Print, slots: &[u8], file: &mut [u8]) -> io::Result<()> {
+    word(rt, b"-")?;
+    line(rt, slots, file, 0)?;
+    lines(rt, slots, file, b"", 0)?;
+    begun(rt, slots, file)?;
+    described(rt, slots, file)
 }
 
-fn main() {
+fn main(rt: HostRuntime) -> io::Result<()> {
     let mut slots = [0u8; 832];
-    io::read_full(0, &mut slots);
+    show::fill(&rt, &mut slots)?;
     let mut file = [0u8; 320];
-    run(&slots, &mut file);
+    run(&rt, &slots, &mut file)
 }

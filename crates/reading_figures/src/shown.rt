@@ -6,87 +6,88 @@ use reading::plain::parse_caf_file;
 use reading::strict::read_strict;
 use reading::{PlainAnswer, StrictAnswer, StrictInfo};
 use show::{decimal, word};
+use std::io;
 
 // A blank and a number.
-pub(crate) fn number(n: u64) {
-    word(b" ");
-    decimal(n);
+pub(crate) fn number(rt: &impl Print, n: u64) -> io::Result<()> {
+    word(rt, b" ")?;
+    decimal(rt, n)
 }
 
-fn size(n: usize) {
-    number(n as u64);
+fn size(rt: &impl Print, n: usize) -> io::Result<()> {
+    number(rt, n as u64)
 }
 
-fn numbers(refusal: u32, chunks: usize) {
-    number(refusal as u64);
-    size(chunks);
+fn numbers(rt: &impl Print, refusal: u32, chunks: usize) -> io::Result<()> {
+    number(rt, refusal as u64)?;
+    size(rt, chunks)
 }
 
-fn format_words(format: AudioFormat) {
-    number(format.bytes_per_packet as u64);
-    number(format.channels_per_frame as u64);
+fn format_words(rt: &impl Print, format: AudioFormat) -> io::Result<()> {
+    number(rt, format.bytes_per_packet as u64)?;
+    number(rt, format.channels_per_frame as u64)
 }
 
-fn maybe_words(format: MaybeFormat) {
+fn maybe_words(rt: &impl Print, format: MaybeFormat) -> io::Result<()> {
     match format {
-        MaybeFormat::Absent => word(b" none"),
-        MaybeFormat::Present(f) => format_words(f),
+        MaybeFormat::Absent => word(rt, b" none"),
+        MaybeFormat::Present(f) => format_words(rt, f),
     }
 }
 
-fn order_word(order: Endianness) {
+fn order_word(rt: &impl Print, order: Endianness) -> io::Result<()> {
     match order {
-        Endianness::BigEndian => word(b" big"),
-        Endianness::LittleEndian => word(b" little"),
+        Endianness::BigEndian => word(rt, b" big"),
+        Endianness::LittleEndian => word(rt, b" little"),
     }
 }
 
-fn plain_words(answer: PlainAnswer) {
+fn plain_words(rt: &impl Print, answer: PlainAnswer) -> io::Result<()> {
     match answer {
-        PlainAnswer::NotRead(refusal, chunks) => numbers(refusal, chunks),
+        PlainAnswer::NotRead(refusal, chunks) => numbers(rt, refusal, chunks),
         PlainAnswer::Found(info, chunks) => {
-            numbers(answers::DONE, chunks);
-            size(info.size_position);
-            size(info.data_start);
+            numbers(rt, answers::DONE, chunks)?;
+            size(rt, info.size_position)?;
+            size(rt, info.data_start)?;
             let order = info.endianness;
             let format = info.format;
-            order_word(order);
-            maybe_words(format);
+            order_word(rt, order)?;
+            maybe_words(rt, format)
         }
     }
 }
 
-fn info_words(info: StrictInfo) {
-    size(info.size_position);
-    size(info.data_start);
-    size(info.payload);
+fn info_words(rt: &impl Print, info: StrictInfo) -> io::Result<()> {
+    size(rt, info.size_position)?;
+    size(rt, info.data_start)?;
+    size(rt, info.payload)?;
     if info.open {
-        word(b" open");
+        word(rt, b" open")?;
     } else {
-        word(b" closed");
+        word(rt, b" closed")?;
     }
-    size(info.frames);
-    format_words(info.format);
+    size(rt, info.frames)?;
+    format_words(rt, info.format)
 }
 
-fn strict_words(answer: StrictAnswer) {
+fn strict_words(rt: &impl Print, answer: StrictAnswer) -> io::Result<()> {
     match answer {
-        StrictAnswer::Rejected(refusal, chunks) => numbers(refusal, chunks),
+        StrictAnswer::Rejected(refusal, chunks) => numbers(rt, refusal, chunks),
         StrictAnswer::Accepted(info, chunks) => {
-            numbers(answers::DONE, chunks);
-            info_words(info);
+            numbers(rt, answers::DONE, chunks)?;
+            info_words(rt, info)
         }
     }
 }
 
 // The length of a file, the first n bytes here, and both answers.
-pub(crate) fn both_answers(file: &[u8], n: usize)
+pub(crate) fn both_answers(rt: &impl Print, file: &[u8], n: usize) -> io::Result<()>
     requires { n ≤ length file.now }
 {
     let cut = &file[..n];
-    size(n);
-    word(b" plain");
-    plain_words(parse_caf_file(cut));
-    word(b" strict");
-    strict_words(read_strict(cut));
+    size(rt, n)?;
+    word(rt, b" plain")?;
+    plain_words(rt, parse_caf_file(cut))?;
+    word(rt, b" strict")?;
+    strict_words(rt, read_strict(cut))
 }

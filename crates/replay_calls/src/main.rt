@@ -7,12 +7,16 @@ mod scripts;
 
 use cases::frame::case_at;
 use scripts::same_script;
-use show::{decimal, newline, word};
+use show::{decimal, fill, newline, word};
+use std::io;
 
 // The one kind of case, by its letter.
 const SCRIPT: u32 = 0x57;
 
-fn replay(s: &[u8]) {
+// Of a longer input the first bytes are replayed.
+const MOST: usize = 65_536;
+
+fn replay(rt: &impl Print, s: &[u8]) -> io::Result<()> {
     let mut same: u64 = 0;
     let mut different: u64 = 0;
     let mut at: usize = 0;
@@ -21,22 +25,22 @@ fn replay(s: &[u8]) {
         let start = case.start;
         let end = case.end;
         if case.kind == SCRIPT && same_script(&s[start..end]) {
-            same = std::num::wrapping_add_u64(same, 1);
+            same = same.wrapping_add(1);
         } else {
-            different = std::num::wrapping_add_u64(different, 1);
+            different = different.wrapping_add(1);
         }
         at = end;
     }
-    word(b"the same ");
-    decimal(same);
-    newline();
-    word(b"different ");
-    decimal(different);
-    newline();
+    word(rt, b"the same ")?;
+    decimal(rt, same)?;
+    newline(rt)?;
+    word(rt, b"different ")?;
+    decimal(rt, different)?;
+    newline(rt)
 }
 
-fn main() {
-    let mut input = io::large_buffer();
-    let n = io::read_full(0, &mut input);
-    replay(&input[..n]);
+fn main(rt: HostRuntime) -> io::Result<()> {
+    let mut input = [0u8; MOST];
+    let n = fill(&rt, &mut input)?;
+    replay(&rt, &input[..n])
 }

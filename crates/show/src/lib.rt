@@ -1,42 +1,43 @@
-// Words and numbers on standard output, for the programs. The digits are those of the kit's `io::decimal` and `io::hex`, whose contracts
-// give every one of them. No contract can say what a call of the system writes, so what is promised here is safety and an end.
+// Words and numbers on standard output, and the bytes of standard input, for the programs. The digits are those of std's formats: `{}`, and
+// `{:016x}` and `{:02x}`, whose text std's contracts state. No contract can say what a call of the system writes or reads, so what is
+// promised here is safety and an end. A call that fails is the caller's to pass on.
 #![tactic(auto)]
 
-ghost use Rattle.std.specs.Prelude.{◌≡◌, nat_abs};
+ghost use Rattle.std.specs.Prelude.{◌≡◌, ◌≤◌, nat_abs, length, IfOk};
 
-use libc::STDOUT_FILENO;
+use std::io;
+use std::io::Read;
 
-pub fn word(text: &[u8]) {
-    io::write_all(STDOUT_FILENO, text);
+pub fn word(rt: &impl Print, text: &[u8]) -> io::Result<()> {
+    rt.write_all(text)
 }
 
-pub fn newline() {
-    word(b"\n");
+pub fn newline(rt: &impl Print) -> io::Result<()> {
+    word(rt, b"\n")
 }
 
 // The fewest decimal digits that hold v.
-pub fn decimal(v: u64) {
-    io::print_decimal(STDOUT_FILENO, v);
+pub fn decimal(rt: &impl Print, v: u64) -> io::Result<()> {
+    rt.print(v)
 }
 
 // All 64 bits of v: 16 hexadecimal digits, in lower case.
-pub fn hex64(v: u64) {
-    io::print_hex(STDOUT_FILENO, v, 16);
+pub fn hex64(rt: &impl Print, v: u64) -> io::Result<()> {
+    print!(rt; "{v:016x}")
 }
 
 // A byte as two hexadecimal digits.
-fn hex_byte(b: u8) {
-    io::print_hex(STDOUT_FILENO, b as u64, 2);
+fn hex_byte(rt: &impl Print, b: u8) -> io::Result<()> {
+    print!(rt; "{b:02x}")
 }
 
 // Each byte as two hexadecimal digits, with a blank before it.
-pub fn hex(bytes: &[u8]) {
-    let mut i: usize = 0;
-    while i < bytes.len() {
-        word(b" ");
-        hex_byte(bytes[i]);
-        i += 1;
+pub fn hex(rt: &impl Print, bytes: &[u8]) -> io::Result<()> {
+    for b in bytes {
+        word(rt, b" ")?;
+        hex_byte(rt, *b)?;
     }
+    Ok(())
 }
 
 // v without its sign.
@@ -50,9 +51,25 @@ fn magnitude(v: i32) -> u64
     y as u64
 }
 
-pub fn signed(v: i32) {
+pub fn signed(rt: &impl Print, v: i32) -> io::Result<()> {
     if v < 0 {
-        word(b"-");
+        word(rt, b"-")?;
     }
-    decimal(magnitude(v));
+    decimal(rt, magnitude(v))
+}
+
+// Reads standard input until the buffer is full or the input ends, and returns how many bytes came.
+pub fn fill(rt: &impl Input, buf: &mut [u8]) -> io::Result<usize>
+    ensures { IfOk result (λ n. n ≤ length buf.new) }
+{
+    let mut input = rt.reader();
+    let mut done: usize = 0;
+    while done < buf.len() {
+        let n = input.read(&mut buf[done..])?;
+        if n == 0 {
+            break;
+        }
+        done += n;
+    }
+    Ok(done)
 }
