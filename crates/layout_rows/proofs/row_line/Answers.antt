@@ -6,25 +6,25 @@ use borrow.Author.Rules.{rules}
 use Rattle.layout_rows.proofs.row_line.Goals as goal
 
 pub slice_bounds-labels-end : goal.slice_bounds-labels-end
-slice_bounds-labels-end c =
+slice_bounds-labels-end g c =
     let r = c.args.row in
     let eight : length r.labels ≡ 8 = search rules in
     omega arith
 
 pub slice_bounds-numbers-end : goal.slice_bounds-numbers-end
-slice_bounds-numbers-end c =
+slice_bounds-numbers-end g c =
     let r = c.args.row in
     let eight : length r.labels ≡ 8 = search rules in
     sym (length-take-le r.count r.labels (omega arith))
 
 pub slice_bounds-labels-end-2 : goal.slice_bounds-labels-end-2
-slice_bounds-labels-end-2 c =
+slice_bounds-labels-end-2 g c =
     let r = c.args.row in
     let eight : length r.labels ≡ 8 = search rules in
     omega arith
 
 pub slice_bounds-layout_for-end : goal.slice_bounds-layout_for-end
-slice_bounds-layout_for-end c =
+slice_bounds-layout_for-end g c =
     let r = c.args.row in
     let eight : length r.labels ≡ 8 = search rules in
     sym (length-take-le r.count r.labels (omega arith))

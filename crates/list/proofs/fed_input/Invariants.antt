@@ -10,8 +10,8 @@ use Rattle.feeding.proofs.Forward.{fed-forward, pass-forward}
 use borrow.Author.Rules.{rules}
 use Rattle.list.proofs.fed_input.Given as goal
 
-abbrev pub invariant-loop-buffer : goal.invariant-loop-buffer
-invariant-loop-buffer l = (length l.buffer ≡ 65536) × (sound l.feeder ≡ true)
+abbrev pub invariant-loop-n : goal.invariant-loop-n
+invariant-loop-n g l = (length l.buffer ≡ 65536) × (sound l.feeder ≡ true)
 
-abbrev pub decreases-loop-buffer : goal.decreases-loop-buffer
-decreases-loop-buffer l = file_max - l.feeder.total
+abbrev pub decreases-loop-n : goal.decreases-loop-n
+decreases-loop-n g l = file_max - l.feeder.total

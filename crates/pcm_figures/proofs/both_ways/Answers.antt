@@ -4,4 +4,4 @@ use borrow.Author.Rules.{rules}
 use Rattle.pcm_figures.proofs.both_ways.Goals as goal
 
 pub slice_bounds-unpack_into-end : goal.slice_bounds-unpack_into-end
-slice_bounds-unpack_into-end c = simp length-take (omega (arith, c.pack_into.auto))
+slice_bounds-unpack_into-end g c = simp length-take (omega (arith, c.pack_into.auto))

@@ -5,7 +5,7 @@ use borrow.Author.Rules.{rules}
 use Rattle.reading_figures.proofs.begun.Given as goal
 
 abbrev pub invariant-loop-i : goal.invariant-loop-i
-invariant-loop-i l = (l.i ≤ 2) × (length l.file ≡ length l.initial.file)
+invariant-loop-i g l = (l.i ≤ 2) × (length l.file ≡ length l.initial.file)
 
 abbrev pub decreases-loop-i : goal.decreases-loop-i
-decreases-loop-i l = 2 - l.i
+decreases-loop-i g l = 2 - l.i

@@ -5,7 +5,7 @@ use borrow.Author.Rules.{rules}
 use Rattle.reading_figures.proofs.lines.Given as goal
 
 abbrev pub invariant-loop-i : goal.invariant-loop-i
-invariant-loop-i l = (l.i ≤ 13) × (length l.file ≡ length l.initial.file)
+invariant-loop-i g l = (l.i ≤ 13) × (length l.file ≡ length l.initial.file)
 
 abbrev pub decreases-loop-i : goal.decreases-loop-i
-decreases-loop-i l = 13 - l.i
+decreases-loop-i g l = 13 - l.i

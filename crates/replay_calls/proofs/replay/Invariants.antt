@@ -3,7 +3,7 @@ use Rattle.cases.proofs.Onward.{onward}
 use Rattle.replay_calls.proofs.replay.Given as goal
 
 abbrev pub invariant-loop-at : goal.invariant-loop-at
-invariant-loop-at l = l.initial.at ≤ l.at
+invariant-loop-at g l = l.initial.at ≤ l.at
 
 abbrev pub decreases-loop-at : goal.decreases-loop-at
-decreases-loop-at l = length l.s - l.at
+decreases-loop-at g l = length l.s - l.at

@@ -1,9 +1,7 @@
-use mathlib.Core.Path.{◌≡◌, refl}
-use Prim.Native.Nat.{ℕ, ◌≤◌, ◌-◌, ◌+◌}
+use mathlib.Core.Path.{refl}
+use Prim.Native.Nat.{ℕ, ◌+◌}
 use native.Mathlib.Omega.{arith}
-use lib.ListN.{length, take, length-set}
-use borrow.Author.Rules.{rules}
-use Rattle.cases.specs.List.{numbers_at}
+use lib.ListN.{length-set}
 use Rattle.cases.proofs.Listed.{none_yet, one_more, all_done}
 use Rattle.cases.proofs.list.labels_at.Goals as goal
 

@@ -1,10 +1,7 @@
-use mathlib.Core.Path.{◌≡◌, refl}
-use Prim.Native.Nat.{ℕ, ◌≤◌, ◌-◌, ◌+◌}
-use native.Mathlib.Omega.{arith}
-use lib.ListN.{length, take, length-set}
-use borrow.Author.Rules.{rules}
+use mathlib.Core.Path.{◌≡◌}
+use Prim.Native.Nat.{ℕ, ◌≤◌, ◌-◌}
+use lib.ListN.{length, take}
 use Rattle.cases.specs.List.{numbers_at}
-use Rattle.cases.proofs.Listed.{none_yet, one_more, all_done}
 use Rattle.cases.proofs.list.labels_at.Given as goal
 
 abbrev pub invariant-loop-i : goal.invariant-loop-i

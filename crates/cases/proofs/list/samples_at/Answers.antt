@@ -1,12 +1,11 @@
-use mathlib.Core.Path.{◌≡◌, refl, ◌∙◌}
-use Prim.Native.Nat.{◌≤◌, ◌-◌, ◌+◌}
+use mathlib.Core.Path.{refl, ◌∙◌}
+use Prim.Native.Nat.{◌+◌}
 use native.Mathlib.Omega.{arith}
-use lib.ListN.{length, take, length-set}
+use lib.ListN.{length-set}
 use mir.ValLaws.{to_z-of_z}
 use mir.Val.{to_z, of_z}
 use mir.Syntax.{w32}
-use borrow.Author.Rules.{rules}
-use Rattle.cases.specs.List.{numbers_at, signed32}
+use Rattle.cases.specs.List.{signed32}
 use Rattle.cases.proofs.Listed.{none_yet, one_more, all_done}
 use Rattle.cases.proofs.list.samples_at.Goals as goal
 

@@ -1,13 +1,7 @@
-use mathlib.Core.Path.{◌≡◌, refl, ◌∙◌}
-use Prim.Native.Nat.{◌≤◌, ◌-◌, ◌+◌}
-use native.Mathlib.Omega.{arith}
-use lib.ListN.{length, take, length-set}
-use mir.ValLaws.{to_z-of_z}
-use mir.Val.{to_z, of_z}
-use mir.Syntax.{w32}
-use borrow.Author.Rules.{rules}
+use mathlib.Core.Path.{◌≡◌}
+use Prim.Native.Nat.{◌≤◌, ◌-◌}
+use lib.ListN.{length, take}
 use Rattle.cases.specs.List.{numbers_at, signed32}
-use Rattle.cases.proofs.Listed.{none_yet, one_more, all_done}
 use Rattle.cases.proofs.list.samples_at.Given as goal
 
 abbrev pub invariant-loop-i : goal.invariant-loop-i

@@ -3,7 +3,6 @@ use native.Mathlib.Omega.{arith}
 use mir.Syntax.{w32}
 use mir.ValLaws.{to_z_pos}
 use borrow.Author.Tests.{lt-ltb, le-ltb}
-use borrow.Author.Rules.{rules}
 use Rattle.cases.proofs.Signed.{taken-fits, signed-fits, signed_is}
 use Rattle.cases.proofs.list.signed.Goals as goal
 

@@ -1,7 +1,6 @@
 use mathlib.Core.Path.{sym}
 use native.Mathlib.Omega.{arith}
 use lib.ListN.{get_or-eq_default}
-use borrow.Author.Rules.{rules}
 use Rattle.cases.proofs.number.byte.Goals as goal
 
 pub returns-then-s-p : goal.returns-then-s-p

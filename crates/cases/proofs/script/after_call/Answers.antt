@@ -1,6 +1,5 @@
 use borrow.Author.Tests.{ne_eqb}
 use Rattle.cases.specs.Script.{after_call}
-use borrow.Author.Rules.{rules}
 use Rattle.cases.proofs.script.after_call.Goals as goal
 
 pub returns-in-1 : goal.returns-in-1

@@ -2,7 +2,6 @@ use Rattle.cases.specs.Script.{after_bytes}
 use lib.ListN.{length}
 use borrow.Author.Tests.{lt-ltb, le-ltb}
 use native.Mathlib.Omega.{arith}
-use borrow.Author.Rules.{rules}
 use Rattle.cases.proofs.script.bytes_at.Goals as goal
 
 pub returns-then-s-end : goal.returns-then-s-end

@@ -5,4 +5,4 @@ use borrow.Author.Rules.{rules}
 use Rattle.cuts.proofs.line.show_digest.Goals as goal
 
 pub slice_bounds-digest-end : goal.slice_bounds-digest-end
-slice_bounds-digest-end c = sym (length-take-le c.args.n c.args.buf.now (omega arith))
+slice_bounds-digest-end g c = sym (length-take-le c.args.n c.args.buf.now (omega arith))

@@ -5,4 +5,4 @@ use borrow.Author.Rules.{rules}
 use Rattle.cuts.proofs.line.show_plain.Goals as goal
 
 pub slice_bounds-parse_caf_file-end : goal.slice_bounds-parse_caf_file-end
-slice_bounds-parse_caf_file-end c = sym (length-take-le c.args.n c.args.buf.now (omega arith))
+slice_bounds-parse_caf_file-end g c = sym (length-take-le c.args.n c.args.buf.now (omega arith))

@@ -5,4 +5,4 @@ use borrow.Author.Rules.{rules}
 use Rattle.cuts.proofs.line.show_strict.Goals as goal
 
 pub slice_bounds-read_strict-end : goal.slice_bounds-read_strict-end
-slice_bounds-read_strict-end c = sym (length-take-le c.args.n c.args.buf.now (omega arith))
+slice_bounds-read_strict-end g c = sym (length-take-le c.args.n c.args.buf.now (omega arith))

@@ -4,4 +4,4 @@ use borrow.Author.Rules.{rules}
 use Rattle.reading_figures.proofs.shown.both_answers.Goals as goal
 
 pub slice_bounds-cut-end : goal.slice_bounds-cut-end
-slice_bounds-cut-end c = sym (length-take-le c.args.n c.args.file.now c.requires)
+slice_bounds-cut-end g c = sym (length-take-le c.args.n c.args.file.now c.requires)
