@@ -1,8 +1,4 @@
 use Prim.Native.Nat.{◌≤◌, ◌-◌}
-use native.Mathlib.Omega.{arith}
-use borrow.Author.Rules.{rules}
-use Rattle.layout.specs.Counts.{«43-rows»}
-use Rattle.layout.proofs.Rules.{each_row}
 use Rattle.layout_rows.proofs.main.Given as goal
 
 abbrev pub invariant-loop-i : goal.invariant-loop-i

@@ -3,7 +3,6 @@ use Prim.Native.Nat.{◌≤◌}
 use lib.ListN.{length}
 use lib.Seq.{length-take-le}
 use native.Mathlib.Omega.{arith}
-use borrow.Author.Rules.{rules}
 use Rattle.lent_film.proofs.reading_of.Goals as goal
 
 -- src/main.rt:42:17

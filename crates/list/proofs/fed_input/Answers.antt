@@ -1,10 +1,5 @@
-use mathlib.Core.Bool.{true}
-use mathlib.Core.Path.{◌≡◌, ◌∙◌}
-use Prim.Native.Nat.{◌-◌}
+use mathlib.Core.Path.{◌∙◌}
 use native.Mathlib.Omega.{arith}
-use lib.ListN.{length}
-use Rattle.answers.specs.Numbers.{file_max}
-use Rattle.feeder.specs.Record.{sound}
 use Rattle.feeder.proofs.Facts.{sound-tests, fresh-sound}
 use Rattle.feeding.proofs.Forward.{fed-forward, pass-forward}
 use borrow.Author.Rules.{rules}

@@ -1,6 +1,5 @@
 use native.Mathlib.Omega.{arith}
 use lib.ListN.{length-append}
-use borrow.Author.Rules.{rules}
 use Rattle.overview_figures.proofs.put.Goals as goal
 
 pub slice_bounds-put_overview-end : goal.slice_bounds-put_overview-end

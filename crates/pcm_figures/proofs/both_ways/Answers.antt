@@ -1,6 +1,5 @@
 use native.Mathlib.Omega.{arith}
 use lib.ListN.{length-take}
-use borrow.Author.Rules.{rules}
 use Rattle.pcm_figures.proofs.both_ways.Goals as goal
 
 pub slice_bounds-unpack_into-end : goal.slice_bounds-unpack_into-end

@@ -1,4 +1,4 @@
-use Rattle.std.proofs.Common.{◌-◌, ◌<◌, ◌≤◌, length, arith, rules}
+use Rattle.std.proofs.Common.{◌<◌, arith}
 use Rattle.cases.proofs.Onward.{onward}
 use Rattle.replay_calls.proofs.replay.Goals as goal
 

@@ -1,5 +1,4 @@
-use Rattle.std.proofs.Common.{◌-◌, ◌<◌, ◌≤◌, length, arith, rules}
-use Rattle.cases.proofs.Onward.{onward}
+use Rattle.std.proofs.Common.{◌-◌, ◌≤◌, length}
 use Rattle.replay_calls.proofs.replay.Given as goal
 
 abbrev pub invariant-loop-at : goal.invariant-loop-at

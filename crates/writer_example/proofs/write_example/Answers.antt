@@ -1,5 +1,4 @@
 use native.Mathlib.Omega.{arith}
-use borrow.Author.Rules.{rules}
 use Rattle.writer_example.proofs.write_example.Goals as goal
 
 pub shape_of-buf : goal.shape_of-buf

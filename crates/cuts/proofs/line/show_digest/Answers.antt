@@ -1,7 +1,6 @@
 use lib.Seq.{length-take-le}
 use native.Mathlib.Omega.{arith}
 use mathlib.Core.Path.{sym}
-use borrow.Author.Rules.{rules}
 use Rattle.cuts.proofs.line.show_digest.Goals as goal
 
 pub slice_bounds-digest-end : goal.slice_bounds-digest-end

@@ -1,6 +1,5 @@
 use mathlib.Core.Path.{sym}
 use lib.Seq.{length-take-le}
-use borrow.Author.Rules.{rules}
 use Rattle.reading_figures.proofs.digest.fold_file.Goals as goal
 
 pub slice_bounds-cut-end : goal.slice_bounds-cut-end

@@ -1,7 +1,6 @@
 use mathlib.Core.Path.{◌≡◌}
 use Prim.Native.Nat.{◌≤◌, ◌-◌}
 use lib.ListN.{length}
-use borrow.Author.Rules.{rules}
 use Rattle.reading_figures.proofs.pieces.copy.Given as goal
 
 abbrev pub invariant-loop-j : goal.invariant-loop-j

@@ -1,4 +1,4 @@
-use Rattle.std.proofs.Common.{arith, length-take, rules}
+use Rattle.std.proofs.Common.{arith, length-take}
 use Rattle.replay.proofs.labels.same_labels.Goals as goal
 
 pub slice_bounds-layout_for-end : goal.slice_bounds-layout_for-end

@@ -1,4 +1,4 @@
-use Rattle.std.proofs.Common.{arith, length-take, rules}
+use Rattle.std.proofs.Common.{arith, length-take}
 use Rattle.replay.proofs.samples.same_samples.Goals as goal
 
 pub slice_bounds-same_packed-end : goal.slice_bounds-same_packed-end

@@ -1,4 +1,4 @@
-use Rattle.std.proofs.Common.{arith, length-take, rules}
+use Rattle.std.proofs.Common.{arith, length-take}
 use Rattle.replay_calls.proofs.calls.samples.Goals as goal
 
 pub slice_bounds-write_pcm_24bit_as_packed-end : goal.slice_bounds-write_pcm_24bit_as_packed-end
