@@ -12,8 +12,7 @@ loop-i-init c = (omega arith, c.requires.0, λ h k low high. absurd (let z : ⊥
 
 pub loop-i-preserved : goal.loop-i-preserved
 loop-i-preserved c =
-    let a = c.args in
-    (
+    let a = c.args in (
       omega arith,
       omega arith,
       λ h.

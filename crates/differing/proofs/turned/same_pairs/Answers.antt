@@ -12,8 +12,7 @@ loop-i-init c = (omega arith, λ h k low high. absurd (let z : ⊥ = omega arith
 
 pub loop-i-preserved : goal.loop-i-preserved
 loop-i-preserved c =
-    let a = c.args in
-    (
+    let a = c.args in (
       omega arith,
       λ h.
           let w = still-same c.loop-i.same c.pair_in.result c.pair_in-in-loop-i.result c.still_number-same.result c.still_number-same.ensures h in

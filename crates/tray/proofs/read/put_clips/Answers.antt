@@ -41,12 +41,11 @@ slice_bounds-put_clip-end c =
 
 -- src/read.rt:54:5
 pub loop-i-preserved : goal.loop-i-preserved
-loop-i-preserved c =
-    (
-      omega arith,
-      omega (arith, c.put_clip.auto),
-      rw add-one (put-more c.args.s.now c.args.out.now c.loop-i.i c.loop-i.invariant.1 c.loop-i.invariant.2 c.put_clip.ensures (clip-cut c.args.s.now c.loop-i.i c.start_at-start.ensures c.size_at.ensures) (omega (arith, c.requires.1))),
-    )
+loop-i-preserved c = (
+  omega arith,
+  omega (arith, c.put_clip.auto),
+  rw add-one (put-more c.args.s.now c.args.out.now c.loop-i.i c.loop-i.invariant.1 c.loop-i.invariant.2 c.put_clip.ensures (clip-cut c.args.s.now c.loop-i.i c.start_at-start.ensures c.size_at.ensures) (omega (arith, c.requires.1))),
+)
 
 -- src/read.rt:49:1
 pub returns : goal.returns
