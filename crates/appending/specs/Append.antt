@@ -1,5 +1,5 @@
 -- 02, T-09: the overview of a finished file, appended to it, from what the call asks of its record.
-use Rattle.std.specs.Prelude.{ℕ, ◌+◌, ◌-◌, ◌≡◌, Bool, cond, not, List, eqb}
+use Rattle.std.specs.Prelude.{ℕ, ◌+◌, ◌-◌, ◌≡◌, Bool, cond, not, List, eqb, Result, Ok, Err}
 use Rattle.answers.specs.Numbers.{done, bad_writer, no_header, no_room_left, tail_after_data, not_closed, no_group, wrong_width}
 use Rattle.byte_order.specs.Big.{big_at}
 use Rattle.overview.specs.Body.{overview_chunk, chunk_length}
@@ -8,7 +8,18 @@ use Rattle.reading.specs.Types.{edit_size}
 use Rattle.refusals.specs.Numbers.{exceeds}
 use Rattle.appending.specs.Audio.{channels_of, is_whole, size_of, track_as, frames_as}
 use Rattle.appending.specs.declared.Audio.{Audio}
-use Rattle.appending.specs.declared.Appended.{Appended}
+use Rattle.answers.specs.Refused.{refusal_number}
+use Rattle.answers.specs.declared.refusal.Refusal.{Refusal}
+
+-- the answer, by number: how many bytes were stored, from the end of the data on
+pub record Appended : Type 0 where
+  pub number : ℕ
+  pub stores : ℕ
+
+-- the one that the code's answer stands for
+abbrev pub appended_of : Result ℕ Refusal → Appended
+appended_of (Ok n) = record { number = done; stores = n }
+appended_of (Err e) = record { number = refusal_number e; stores = 0 }
 
 -- the edit count of the data chunk: the four bytes before the data
 abbrev pub edits_as : Audio → List ℕ → ℕ

@@ -5,20 +5,13 @@
 pub mod append;
 mod whole;
 
-use format::{Endianness, MaybeFormat};
+use format::{AudioFormat, Endianness};
 
 // The data that a file ends with.
 #[derive(Clone, Copy)]
 pub struct Audio {
-    pub format: MaybeFormat,
+    pub format: Option<AudioFormat>,
     pub order: Endianness,
     pub start: usize,
     pub end: usize,
-}
-
-// The answer: how many bytes were stored, from the end of the data on.
-#[derive(Clone, Copy)]
-pub struct Appended {
-    pub number: u32,
-    pub stores: usize,
 }

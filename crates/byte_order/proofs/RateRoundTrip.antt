@@ -3,12 +3,11 @@ use mathlib.Core.Path.{◌≡◌}
 use mathlib.Core.Bool.{not}
 use Prim.Native.Nat.{ℕ, ◌<◌, ◌^◌}
 use lib.Dec.{T}
+use Rattle.std.proofs.Common.{Some}
 use lib.Ieee.{Float, binary64, fits}
 use lib.Ieee.Bits.{of_bits-to_bits, to_bits-of_bits, to_bits-lt, is_false}
 use Rattle.byte_order.specs.Rate.{rate_of, bits_of_rate, not_aNumber}
 use Rattle.byte_order.specs.RateAnswers.{rate_from, bits_from}
-use Rattle.byte_order.specs.declared.Rate.TheVariants.{Number}
-use Rattle.byte_order.specs.declared.RateBits.TheVariants.{Bits}
 
 -- the code's `f64` always fits
 pub rate-back : (x : Float) → T (fits binary64 x) → rate_of (bits_of_rate x) ≡ x
@@ -21,8 +20,8 @@ pub bits_back : (n : ℕ) → n < 2 ^ 64 → T (not (not_aNumber (rate_of n))) �
 bits_back n h number = to_bits-of_bits binary64 n h number
 
 -- the same of the answers: what one function gives, the other one takes back
-pub rate-to-bits-and-back : (x : Float) → T (fits binary64 x) → T (not (not_aNumber x)) → (bits_from x ≡ Bits (bits_of_rate x)) × (rate_from (bits_of_rate x) ≡ Number x)
+pub rate-to-bits-and-back : (x : Float) → T (fits binary64 x) → T (not (not_aNumber x)) → (bits_from x ≡ Some (bits_of_rate x)) × (rate_from (bits_of_rate x) ≡ Some x)
 rate-to-bits-and-back x h number = let no = is_false (not_aNumber x) number in (rw no, rw (rate-back x h, no))
 
-pub bits-to-rate-and-back : (n : ℕ) → n < 2 ^ 64 → T (not (not_aNumber (rate_of n))) → (rate_from n ≡ Number (rate_of n)) × (bits_from (rate_of n) ≡ Bits n)
+pub bits-to-rate-and-back : (n : ℕ) → n < 2 ^ 64 → T (not (not_aNumber (rate_of n))) → (rate_from n ≡ Some (rate_of n)) × (bits_from (rate_of n) ≡ Some n)
 bits-to-rate-and-back n h number = let no = is_false (not_aNumber (rate_of n)) number in (rw no, rw (no, bits_back n h number))

@@ -3,20 +3,18 @@ ghost use Rattle.std.specs.Prelude.{◌≡◌};
 ghost use Rattle.byte_order.specs.Rate.{not_aNumber};
 ghost use Rattle.byte_order.specs.RateAnswers.{rate_from, bits_from};
 
-use crate::{Rate, RateBits};
-
 // The largest pattern without its sign that is a number: infinity.
 const INFINITY: u64 = 0x7FF0_0000_0000_0000;
 
 const SIGN: u64 = 0x8000_0000_0000_0000;
 
-pub fn rate_from_bits(bits: u64) -> Rate
+pub fn rate_from_bits(bits: u64) -> Option<f64>
     ensures { result ≡ rate_from bits }
 {
     if INFINITY < bits % SIGN {
-        return Rate::NotANumber;
+        return None;
     }
-    Rate::Number(f64::from_bits(bits))
+    Some(f64::from_bits(bits))
 }
 
 // Only a not-a-number differs from itself.
@@ -26,11 +24,11 @@ pub fn is_not_a_number(rate: f64) -> bool
     rate != rate
 }
 
-pub fn rate_to_bits(rate: f64) -> RateBits
+pub fn rate_to_bits(rate: f64) -> Option<u64>
     ensures { result ≡ bits_from rate }
 {
     if is_not_a_number(rate) {
-        return RateBits::NotANumber;
+        return None;
     }
-    RateBits::Bits(f64::to_bits(rate))
+    Some(f64::to_bits(rate))
 }

@@ -1,4 +1,1 @@
-mod Signed
 mod Listed
-mod Compared
-pub mod Onward

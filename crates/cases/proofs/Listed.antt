@@ -1,10 +1,6 @@
 -- A loop over a list of four-byte numbers: what it has done is the list up to there.
-use mathlib.Core.Path.{◌≡◌, refl, sym, ◌∙◌}
-use mathlib.Core.List.{List, []}
-use Prim.Native.Nat.{ℕ, suc, ◌*◌, ◌<◌}
-use native.Mathlib.Omega.{arith}
-use lib.ListN.{length, take, set}
-use lib.Seq.{take-suc-set, take_all}
+use Rattle.std.proofs.Common.{◌≡◌, ℕ, ◌+◌, ◌*◌, ◌<◌, List, [], length, take, slice_set, refl, sym, ◌∙◌, arith, add-one}
+use Rattle.std.proofs.Math.Seq.{take-suc-set, take_all}
 use Rattle.byte_order.specs.Big.{big_at}
 use Rattle.cases.specs.Number.{further}
 use Rattle.cases.specs.List.{numbers_at}
@@ -14,9 +10,9 @@ module _ {A : Type 0} (f : ℕ → A) (s : List ℕ) (p : ℕ) where
   unfolding numbers_at
   none_yet = refl
 
-  pub one_more : (l : List A) (i j : ℕ) (v : A) → j ≡ suc i → i < length l → take i l ≡ numbers_at f i s p → v ≡ f (big_at 4 s (further p (4 * i))) → take j (set l i v) ≡ numbers_at f j s p
+  pub one_more : (l : List A) (i : ℕ) (v : A) → i < length l → take i l ≡ numbers_at f i s p → v ≡ f (big_at 4 s (further p (4 * i))) → take (i + 1) (slice_set l i v) ≡ numbers_at f (i + 1) s p
   unfolding numbers_at
-  one_more l i j v k h e w = rw k (take-suc-set l i v h ∙ rw (e, w))
+  one_more l i v h e w = rw add-one (take-suc-set l i v h ∙ rw (e, w))
 
-  pub all_done : (l : List A) (i k : ℕ) → i ≡ k → k ≡ length l → take i l ≡ numbers_at f i s p → l ≡ numbers_at f k s p
+  pub all_done : (l : List A) (i k : ℕ) → i ≡ k → length l ≡ k → take i l ≡ numbers_at f i s p → l ≡ numbers_at f k s p
   all_done l i k e n h = sym (take_all k l (omega arith)) ∙ rw (← e) h

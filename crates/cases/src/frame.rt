@@ -1,8 +1,8 @@
 // The frame of a case: a byte of kind, the four bytes of a length, and so many bytes of body.
-ghost use Rattle.std.specs.Prelude.{◌≡◌, ◌≤◌, length};
+ghost use Rattle.std.specs.Prelude.{◌≡◌, ◌<◌, ◌≤◌, length, MatchOption};
 ghost use Rattle.cases.specs.Frame.{case_at};
 
-use crate::number::{byte, count, plus};
+use crate::number::{byte, count};
 
 #[derive(Clone, Copy)]
 pub struct Case {
@@ -15,21 +15,19 @@ const LENGTH: usize = 1;
 
 const BODY: usize = 5;
 
-pub fn case_at(s: &[u8], at: usize) -> Case
-    ensures { (result ≡ case_at s.now at) × (result.start ≤ result.end) × (result.end ≤ length s.now) }
+// The case at a position, if it is not cut.
+pub fn case_at(s: &[u8], at: usize) -> Option<Case>
+    ensures value { result ≡ case_at s.now at }
+    ensures within { MatchOption result Unit (λ c. (at < c.end) × (c.start ≤ c.end) × (c.end ≤ length s.now)) }
 {
-    let start = plus(at, BODY);
-    let end = plus(start, count(s, plus(at, LENGTH)));
+    let start = at.saturating_add(BODY);
+    let end = start.saturating_add(count(s, at.saturating_add(LENGTH)));
     if s.len() < end {
-        return Case {
-            kind: 0,
-            start: s.len(),
-            end: s.len(),
-        };
+        return None;
     }
-    Case {
+    Some(Case {
         kind: byte(s, at),
-        start: start,
-        end: end,
-    }
+        start,
+        end,
+    })
 }

@@ -6,3 +6,4 @@ pub mod frame;
 pub mod list;
 pub mod number;
 pub mod script;
+pub mod tally;

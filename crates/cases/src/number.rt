@@ -1,7 +1,7 @@
 // Numbers of a case, and positions in it.
 ghost use Rattle.std.specs.Prelude.{◌≡◌, get_or};
 ghost use Rattle.byte_order.specs.Big.{big_at};
-ghost use Rattle.cases.specs.Number.{further, order_of, type_of};
+ghost use Rattle.cases.specs.Number.{order_of, type_of};
 
 use byte_order::read::be_u32;
 use format::{Endianness, PCMDataType};
@@ -9,10 +9,7 @@ use format::{Endianness, PCMDataType};
 pub fn byte(s: &[u8], p: usize) -> u32
     ensures { result ≡ get_or s.now p 0 }
 {
-    if s.len() <= p {
-        return 0;
-    }
-    s[p] as u32
+    s.get(p).map_or(0, |b| u32::from(*b))
 }
 
 // A four-byte number as a position or a count.
@@ -22,29 +19,20 @@ pub fn count(s: &[u8], p: usize) -> usize
     be_u32(s, p) as usize
 }
 
-pub fn plus(p: usize, n: usize) -> usize
-    ensures { result ≡ further p n }
-{
-    if 0xFFFF_FFFF_FFFF_FFFF - p < n {
-        return 0xFFFF_FFFF_FFFF_FFFF;
-    }
-    p + n
-}
-
 pub fn order(little: u32) -> Endianness
     ensures { result ≡ order_of little }
 {
-    if little == 1 {
-        return Endianness::LittleEndian;
+    match little {
+        1 => Endianness::LittleEndian,
+        _ => Endianness::BigEndian,
     }
-    Endianness::BigEndian
 }
 
 pub fn data_type(float: u32) -> PCMDataType
     ensures { result ≡ type_of float }
 {
-    if float == 1 {
-        return PCMDataType::Float;
+    match float {
+        1 => PCMDataType::Float,
+        _ => PCMDataType::SignedInteger,
     }
-    PCMDataType::SignedInteger
 }

@@ -1,32 +1,46 @@
 // The calls of a script: where the bytes of each end, and the run of bytes that one is given.
-ghost use Rattle.std.specs.Prelude.{◌≡◌, ◌≤◌, length};
-ghost use Rattle.cases.specs.Script.{after_numbers, after_bytes, after_call, end_of, bytes_at};
+ghost use Rattle.std.specs.Prelude.{◌≡◌};
+ghost use Rattle.cases.specs.Script.{after_numbers, after_bytes, kind_of, after_call, end_of, bytes_at};
 
-use crate::number::{byte, count, plus};
+use crate::number::{byte, count};
 use byte_order::read::be_u32;
 
 // The kinds of call, as compare/README.md has them.
-pub const FORMAT: u32 = 1;
+#[derive(Clone, Copy, Debug, PartialEq, Eq)]
+pub enum CallKind {
+    Format = 1,
+    Tag = 2,
+    Labels = 3,
+    Configure = 4,
+    Header = 5,
+    Data = 6,
+    Samples = 7,
+    Finish = 8,
+    Resume = 9,
+    ResumeFrom = 10,
+    Cut = 11,
+}
 
-pub const TAG: u32 = 2;
-
-pub const LABELS: u32 = 3;
-
-pub const CONFIGURE: u32 = 4;
-
-pub const HEADER: u32 = 5;
-
-pub const DATA: u32 = 6;
-
-pub const SAMPLES: u32 = 7;
-
-pub const FINISH: u32 = 8;
-
-pub const RESUME: u32 = 9;
-
-pub const RESUME_FROM: u32 = 10;
-
-pub const CUT: u32 = 11;
+// The kind that a byte tells.
+#[tactic(auto, unfolding(crate::specs::Script::kind_of))]
+pub fn kind_of(byte: u32) -> Option<CallKind>
+    ensures { result ≡ kind_of byte }
+{
+    match byte {
+        1 => Some(CallKind::Format),
+        2 => Some(CallKind::Tag),
+        3 => Some(CallKind::Labels),
+        4 => Some(CallKind::Configure),
+        5 => Some(CallKind::Header),
+        6 => Some(CallKind::Data),
+        7 => Some(CallKind::Samples),
+        8 => Some(CallKind::Finish),
+        9 => Some(CallKind::Resume),
+        10 => Some(CallKind::ResumeFrom),
+        11 => Some(CallKind::Cut),
+        _ => None,
+    }
+}
 
 // Where the call that is cut stands after its kind: after the four bytes of n.
 pub const INNER: usize = 4;
@@ -35,28 +49,27 @@ pub const INNER: usize = 4;
 fn after_numbers(s: &[u8], p: usize) -> usize
     ensures { result ≡ after_numbers s.now p }
 {
-    plus(p, 4 + be_u32(s, p) as usize * 4)
+    p.saturating_add(4 + be_u32(s, p) as usize * 4)
 }
 
 // Where a run of bytes ends whose length stands at p.
 fn after_bytes(s: &[u8], p: usize) -> usize
     ensures { result ≡ after_bytes s.now p }
 {
-    plus(plus(p, 4), count(s, p))
+    p.saturating_add(4).saturating_add(count(s, p))
 }
 
 // Where a call of this kind ends, whose bytes start at p.
-fn after_call(kind: u32, s: &[u8], p: usize) -> usize
+fn after_call(kind: Option<CallKind>, s: &[u8], p: usize) -> usize
     ensures { result ≡ after_call kind s.now p }
 {
     match kind {
-        FORMAT => plus(p, 18),
-        TAG => plus(p, 4),
-        LABELS => after_numbers(s, plus(p, 4)),
-        CONFIGURE => after_numbers(s, plus(p, 16)),
-        DATA => after_bytes(s, p),
-        SAMPLES => after_numbers(s, p),
-        RESUME_FROM => after_bytes(s, p),
+        Some(CallKind::Format) => p.saturating_add(18),
+        Some(CallKind::Tag) => p.saturating_add(4),
+        Some(CallKind::Labels) => after_numbers(s, p.saturating_add(4)),
+        Some(CallKind::Configure) => after_numbers(s, p.saturating_add(16)),
+        Some(CallKind::Data | CallKind::ResumeFrom) => after_bytes(s, p),
+        Some(CallKind::Samples) => after_numbers(s, p),
         _ => p,
     }
 }
@@ -65,32 +78,19 @@ fn after_call(kind: u32, s: &[u8], p: usize) -> usize
 pub fn end_of(s: &[u8], p: usize) -> usize
     ensures { result ≡ end_of s.now p }
 {
-    let kind = byte(s, p);
-    let next = plus(p, 1);
-    if kind == CUT {
-        let inner = plus(next, INNER);
-        return after_call(byte(s, inner), s, plus(inner, 1));
+    let next = p.saturating_add(1);
+    match kind_of(byte(s, p)) {
+        Some(CallKind::Cut) => {
+            let inner = next.saturating_add(INNER);
+            after_call(kind_of(byte(s, inner)), s, inner.saturating_add(1))
+        }
+        kind => after_call(kind, s, next),
     }
-    after_call(kind, s, next)
-}
-
-// A run of bytes in a case.
-#[derive(Clone, Copy)]
-pub struct Run {
-    pub start: usize,
-    pub end: usize,
 }
 
 // The bytes whose length stands at p; none where the case does not hold them.
-pub fn bytes_at(s: &[u8], p: usize) -> Run
-    ensures { (result ≡ bytes_at s.now p) × (result.start ≤ result.end) × (result.end ≤ length s.now) }
+pub fn bytes_at(s: &[u8], p: usize) -> &[u8]
+    ensures { result.now ≡ bytes_at s.now p }
 {
-    let end = after_bytes(s, p);
-    if s.len() < end {
-        return Run { start: 0, end: 0 };
-    }
-    Run {
-        start: plus(p, 4),
-        end: end,
-    }
+    s.get(p.saturating_add(4)..after_bytes(s, p)).unwrap_or(&[])
 }

@@ -2,7 +2,7 @@
 use mathlib.Core.Path.{◌≡◌, refl, sym, ◌∙◌, ap}
 use mathlib.Core.Bool.{Bool, true, false, cond}
 use mathlib.Core.List.{List, [], ◌∷◌, ◌++◌, append_assoc}
-use mathlib.Core.Option.{Option, none, some}
+use mathlib.Core.Option.{some}
 use Prim.Native.Nat.{ℕ, ◌+◌, ◌<◌}
 use native.Mathlib.Omega.{arith}
 use lib.ListN.{length, take, drop, length-append}
@@ -11,22 +11,22 @@ use borrow.Author.Tests.{le-ltb}
 use Rattle.byte_order.specs.Same.{exactly}
 use Rattle.byte_order.proofs.Same.{exactly-no}
 use Rattle.format.specs.Desc.{desc_body}
-use Rattle.reading.specs.Types.{'chan', 'desc', 'data', chunk_header_size, negative}
+use Rattle.reading.specs.Types.{'chan', 'desc', 'data', negative}
 use Rattle.reading.specs.Step.{left, stands_at, size_at, body_at}
 use Rattle.reading.specs.Table.{four_at}
-use Rattle.reading.specs.Grammar.{file_header, chunk_header, chunk, OtherChunk, OthersAllowed, other_chunks, CafFile, Allowed, bytes_of}
+use Rattle.reading.specs.Grammar.{file_header, chunk_header, chunk, OtherChunk, OthersAllowed, other_chunks, bytes_of}
 use Rattle.reading.proofs.Front.{after-left, after-four, after-size, its-type, its-size, its-length}
 use Rattle.reading.proofs.Sound.{sound}
 use Rattle.chan_reading.specs.First.{first_chan}
-use Rattle.chan_reading.specs.Find.{find_step, find_from, find_chan, bytes_at}
+use Rattle.chan_reading.specs.Find.{find_from, find_chan, bytes_at}
 use Rattle.chan_reading.specs.Claims.{FoundIsFirst, FoundOfStrict}
-use Rattle.chan_reading.specs.declared.ChanPlace.{ChanPlace}
-use Rattle.chan_reading.specs.declared.ChanPlace.TheVariants.{At, Nowhere}
+use Rattle.std.proofs.Common.{Option, Some, None}
+use Rattle.reading.specs.declared.Body.{Body}
 use Rattle.chan_reading.proofs.Parts.{differs, desc-small, size_of, after_size, parts}
 use Rattle.chan_reading.proofs.FindOn.{find-on}
 
 -- at the data the search ends
-at-data : (pre tail : List ℕ) (size : ℕ) → find_from (pre ++ (chunk_header 'data' size ++ tail)) (length pre) ≡ Nowhere
+at-data : (pre tail : List ℕ) (size : ℕ) → find_from (pre ++ (chunk_header 'data' size ++ tail)) (length pre) ≡ None
 at-data pre tail size =
     let rest = chunk_header 'data' size ++ tail in
     let n = after-left pre rest in
@@ -47,7 +47,7 @@ module _ (pre type body more : List ℕ) (four : length type ≡ 4) (not-data : 
   size-there : size_at file (length pre) ≡ length body
   size-there = after-size pre there ∙ its-size type body more four small
 
-  at-chunk : find_from file (length pre) ≡ cond (exactly type 'chan') (At (body_at (length pre)) (length body)) (find_from file (body_at (length pre) + length body))
+  at-chunk : find_from file (length pre) ≡ cond (exactly type 'chan') (Some (record { start = body_at (length pre); size = length body })) (find_from file (body_at (length pre) + length body))
   at-chunk =
       let l = its-length type body more four in
       let n = after-left pre there in
@@ -84,12 +84,12 @@ module _ (size : ℕ) (tail : List ℕ) where
       let e₂ : s ≡ (pre ++ one) ++ more = e₁ ∙ sym (append_assoc pre one more) in
       let n : length (pre ++ one) ≡ body_at (length pre) + length c.body = end-there pre c.type c.body more o.four o.not-data o.size in
       let next : bytes_at s (find_from s (body_at (length pre) + length c.body)) ≡ first_chan cs = rw n at (walks cs (pre ++ one) s ok.1 e₂) in
-      let here : bytes_at s (At (body_at (length pre)) (length c.body)) ≡ some c.body = rw e₁ (ap some (body-there pre c.type c.body more o.four o.not-data o.size)) in
-      let step : find_from s (length pre) ≡ cond (exactly c.type 'chan') (At (body_at (length pre)) (length c.body)) (find_from s (body_at (length pre) + length c.body)) =
+      let here : bytes_at s (Some (record { start = body_at (length pre); size = length c.body })) ≡ some c.body = rw e₁ (ap some (body-there pre c.type c.body more o.four o.not-data o.size)) in
+      let step : find_from s (length pre) ≡ cond (exactly c.type 'chan') (Some (record { start = body_at (length pre); size = length c.body })) (find_from s (body_at (length pre) + length c.body)) =
       rw e₁ (at-chunk pre c.type c.body more o.four o.not-data o.size) in
-      ap (bytes_at s) step ∙ by (exactly c.type 'chan') (At (body_at (length pre)) (length c.body)) (find_from s (body_at (length pre) + length c.body)) here next
+      ap (bytes_at s) step ∙ by (exactly c.type 'chan') (Some (record { start = body_at (length pre); size = length c.body })) (find_from s (body_at (length pre) + length c.body)) here next
     where
-      by : (b : Bool) (x y : ChanPlace) → bytes_at s x ≡ some c.body → bytes_at s y ≡ first_chan cs → bytes_at s (cond b x y) ≡ cond b (some c.body) (first_chan cs)
+      by : (b : Bool) (x y : Option Body) → bytes_at s x ≡ some c.body → bytes_at s y ≡ first_chan cs → bytes_at s (cond b x y) ≡ cond b (some c.body) (first_chan cs)
       by true x y h g = h
       by false x y h g = g
 

@@ -2,7 +2,7 @@
 use mathlib.Core.Path.{◌≡◌, refl, sym, ◌∙◌, ap}
 use mathlib.Core.Bool.{Bool, true, false, cond, not, true≢false}
 use mathlib.Core.List.{List}
-use Prim.Native.Nat.{ℕ, ◌<◌, ◌≤◌}
+use Prim.Native.Nat.{ℕ}
 use native.Mathlib.Omega.{arith}
 use lib.Dec.{ltb, eqb}
 use borrow.Author.Tests.{ltb-true, ltb-false, eqb-true, eqb-false, not-true, not-false, lt-ltb, le-ltb, eq-eqb, ne_eqb}
@@ -11,11 +11,9 @@ use Rattle.layout.specs.Chan.{chan_size}
 use Rattle.layout.specs.Tags as tag
 use Rattle.reading.proofs.Choice.{either}
 use Rattle.chan_reading.specs.Read.{misfits, numbers_for, chan_number, head_of, answer_for}
-use Rattle.chan_reading.specs.Table
 use Rattle.chan_reading.specs.Table.{tag_in, count_in, Goes, ChanGives}
 use Rattle.chan_reading.specs.Claims.{ChanExactly}
-use Rattle.chan_reading.specs.declared.ChanAnswer.{ChanAnswer}
-use Rattle.chan_reading.specs.declared.ChanAnswer.TheVariants.{Given, Refused}
+use Rattle.chan_reading.specs.Shapes.{ChanAnswer, Given, Refused}
 
 -- where nothing misfits the tag goes with the channels, and the other way round
 goes : (t n channels : ℕ) → misfits t n channels ≡ false → Goes t n channels

@@ -6,8 +6,7 @@ use Rattle.byte_order.specs.Big.{big_at}
 use Rattle.layout.specs.Chan.{chan_size}
 use Rattle.layout.specs.Tags as tag
 use Rattle.chan_reading.specs.Read.{numbers_for, head_of}
-use Rattle.chan_reading.specs.declared.ChanAnswer.{ChanAnswer}
-use Rattle.chan_reading.specs.declared.ChanAnswer.TheVariants.{Given, Refused}
+use Rattle.chan_reading.specs.Shapes.{ChanAnswer, Given, Refused}
 
 -- the tag and the count of descriptions, in the first 12 bytes
 abbrev pub tag_in : List ℕ → ℕ

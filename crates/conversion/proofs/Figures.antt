@@ -1,5 +1,5 @@
 -- The figures hold: computed.
-use mathlib.Core.Path.{◌≡◌, refl}
+use mathlib.Core.Path.{refl}
 use lib.Ieee.{of_bits, is_nan, of_fields, odd, span, climb, size}
 use Rattle.format.specs.Desc.{format_at}
 use Rattle.format.specs.Wide.{is_wide}

@@ -8,15 +8,12 @@ use borrow.Author.Tests.{eqb-true, eqb-false, ltb-true, ltb-false, eq-eqb, ne_eq
 use Rattle.answers.specs.Numbers.{done, no_room_left, not_closed, wrong_width, not_for_wave}
 use Rattle.reading.specs.Strict.{strict}
 use Rattle.reading.specs.declared.StrictInfo.{StrictInfo}
-use Rattle.reading.specs.declared.StrictAnswer.{StrictAnswer}
-use Rattle.reading.specs.declared.StrictAnswer.TheVariants.{Accepted, Rejected}
+use Rattle.reading.specs.Shapes.{StrictAnswer, Accepted, Rejected}
 use Rattle.wave.specs.Making.{making_number}
-use Rattle.wave.specs.Table as HeadTable
 use Rattle.wave.specs.Table.{HeadGives}
 use Rattle.wave.proofs.Rows.{head-exactly}
 use Rattle.conversion.specs.Said.{chan_of, layout_number, labels_of}
 use Rattle.conversion.specs.Conversion.{file_length, first_of, accepted_number, number_told, converted}
-use Rattle.conversion.specs.Table
 use Rattle.conversion.specs.Table.{Good, WaveGives}
 use Rattle.conversion.specs.Claims.{WaveExactly}
 

@@ -4,7 +4,7 @@ use Rattle.std.specs.Prelude.{ℕ, ◌<◌, ◌≤◌, ◌≡◌, true, false, L
 use Rattle.answers.specs.Numbers.{done, no_room_left, not_closed, wrong_width, not_for_wave}
 use Rattle.reading.specs.Strict.{strict}
 use Rattle.reading.specs.declared.StrictInfo.{StrictInfo}
-use Rattle.reading.specs.declared.StrictAnswer.TheVariants.{Accepted, Rejected}
+use Rattle.reading.specs.Shapes.{Accepted, Rejected}
 use Rattle.wave.specs.Table.{Whole, Sayable}
 use Rattle.conversion.specs.Said.{chan_of, layout_number, labels_of}
 use Rattle.conversion.specs.Conversion.{file_length}

@@ -1,5 +1,3 @@
 mod Rest
 mod Runs
 mod Weighed
-mod Called
-mod Settled

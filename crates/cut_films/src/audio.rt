@@ -15,10 +15,8 @@ pub(crate) fn audio(session: usize) -> [u8; AUDIO]
     ensures { result ≡ audio_of session }
 {
     let mut out = [0u8; AUDIO];
-    let mut i: usize = 0;
-    while i < AUDIO {
-        out[i] = audio_byte(session, i);
-        i += 1;
+    for (i, byte) in out.iter_mut().enumerate() {
+        *byte = audio_byte(session, i);
     }
     out
 }

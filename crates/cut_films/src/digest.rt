@@ -6,10 +6,8 @@ pub fn digest(file: &[u8]) -> u64
     ensures { result ≡ digest_of file.now }
 {
     let mut d: u64 = 0;
-    let mut i: usize = 0;
-    while i < file.len() {
-        d = d % 0x1_0000_0000 * 1_000_003 + file[i] as u64;
-        i += 1;
+    for byte in file {
+        d = d % 0x1_0000_0000 * 1_000_003 + u64::from(*byte);
     }
     d % 0x1_0000_0000
 }

@@ -2,45 +2,92 @@
 ghost use Rattle.std.specs.Prelude.{◌≡◌};
 ghost use Rattle.cut_films.specs.Film.{started_film, followed_by};
 
+use std::fmt;
+
 pub const SESSIONS: usize = 3;
 
-// The layout is 0 for none, 1 for a tag, 2 for descriptions. Of the sessions the first `count` are made.
+// Where the layout of a film comes from. Lines have these numbers.
+#[derive(Clone, Copy, Debug, PartialEq, Eq)]
+pub enum LayoutBy {
+    Nothing = 0,
+    Tag = 1,
+    Labels = 2,
+}
+
+// The last call of a session, with what stands before it. Lines have these numbers.
+#[derive(Clone, Copy, Debug, PartialEq, Eq)]
+pub enum LastCall {
+    // the header, or the resume of a later session
+    Begin = 0,
+    OneByte = 1,
+    // two samples, after five bytes
+    Samples = 2,
+    // with no data
+    FinishEmpty = 3,
+    // after one byte
+    FinishByte = 4,
+    // after five bytes and two samples
+    FinishSamples = 5,
+    // after 251 bytes
+    FinishRun = 6,
+    // of a finished film, after one byte
+    FinishAgain = 7,
+}
+
+#[derive(Clone, Copy)]
+pub struct Session {
+    pub last: LastCall,
+    pub stores: usize,
+}
+
+// Of the sessions the first `count` are made.
 #[derive(Clone, Copy)]
 pub struct Film {
-    pub layout: u32,
+    pub layout: LayoutBy,
     pub count: usize,
-    pub lasts: [u32; SESSIONS],
-    pub stores: [usize; SESSIONS],
+    pub sessions: [Session; SESSIONS],
 }
 
 // A film before its first session.
-pub fn started(layout: u32) -> Film
+pub fn started(layout: LayoutBy) -> Film
     ensures { result ≡ started_film layout }
 {
+    let none = Session {
+        last: LastCall::Begin,
+        stores: 0,
+    };
     Film {
-        layout: layout,
+        layout,
         count: 0,
-        lasts: [0u32; SESSIONS],
-        stores: [0usize; SESSIONS],
+        sessions: [none; SESSIONS],
     }
 }
 
 // One session more. There is no fourth.
-pub fn then(film: Film, last: u32, n: usize) -> Film
+pub fn then(mut film: Film, last: LastCall, n: usize) -> Film
     ensures { result ≡ followed_by film last n }
 {
     let count = film.count;
-    if SESSIONS <= count {
-        return film;
+    if count < SESSIONS {
+        film.sessions[count] = Session { last, stores: n };
+        film.count = count + 1;
     }
-    let mut lasts = film.lasts;
-    let mut stores = film.stores;
-    lasts[count] = last;
-    stores[count] = n;
-    Film {
-        layout: film.layout,
-        count: count + 1,
-        lasts: lasts,
-        stores: stores,
+    film
+}
+
+impl fmt::Display for Session {
+    fn fmt<W: fmt::Write>(&self, f: &mut fmt::Formatter<W>) -> fmt::Result {
+        write!(f, "{}/{}", self.last as u32, self.stores)
+    }
+}
+
+// The layout, and the sessions that are made.
+impl fmt::Display for Film {
+    fn fmt<W: fmt::Write>(&self, f: &mut fmt::Formatter<W>) -> fmt::Result {
+        write!(f, "{}", self.layout as u32)?;
+        for session in self.sessions.iter().take(self.count) {
+            write!(f, " {session}")?;
+        }
+        Ok(())
     }
 }

@@ -1,105 +1,81 @@
 // One film, on one line.
 use crate::session::{ROOM, make};
-use answers::DONE;
+use answers::refusal::{DONE, number_of};
 use cut_films::digest::digest;
-use cut_films::film::{Film, SESSIONS};
-use reading::StrictAnswer;
+use cut_films::film::Film;
 use reading::plain::parse_caf_file;
 use reading::strict::read_strict;
-use refusals::of_reading::plain_number;
-use show::{decimal, newline, word};
+use reading::{AcceptedFile, FoundFile, RefusedFile};
 use std::io;
 use writer::CAFWriter;
+use writer::record::{handed_back, outcome_of};
 
-fn number(rt: &impl Print, v: u64) -> io::Result<()> {
-    word(rt, b" ")?;
-    decimal(rt, v)
-}
-
-fn show_session(rt: &impl Print, last: u32, n: usize) -> io::Result<()> {
-    number(rt, last as u64)?;
-    word(rt, b"/")?;
-    decimal(rt, n as u64)
-}
-
-fn show_film(rt: &impl Print, film: Film) -> io::Result<()> {
-    let lasts = film.lasts;
-    let stores = film.stores;
-    decimal(rt, film.layout as u64)?;
-    for session in 0..SESSIONS {
-        if session < film.count {
-            show_session(rt, lasts[session], stores[session])?;
-        }
-    }
-    Ok(())
-}
-
-fn show_answer(rt: &impl Print, answer: StrictAnswer) -> io::Result<()> {
+fn show_answer(rt: &impl Print, answer: Result<AcceptedFile, RefusedFile>) -> io::Result<()> {
     match answer {
-        StrictAnswer::Rejected(refusal, _) => number(rt, refusal as u64),
-        StrictAnswer::Accepted(info, _) => {
-            number(rt, DONE as u64)?;
-            if info.open {
-                word(rt, b" open")?;
-            } else {
-                word(rt, b" closed")?;
-            }
-            number(rt, info.payload as u64)
+        Ok(file) => {
+            let state = if file.info.open { "open" } else { "closed" };
+            print!(rt; " {DONE} {state} {}", file.info.payload)
         }
+        Err(refused) => print!(rt; " {}", refused.refusal.number()),
     }
+}
+
+fn plain_number(answer: Result<FoundFile, RefusedFile>) -> u32 {
+    number_of(answer.map(|_| ()).map_err(|refused| refused.refusal))
 }
 
 // Of the first n bytes of a buffer: their digest, and their two readings.
 fn show_digest(rt: &impl Print, buf: &[u8], n: usize) -> io::Result<()> {
-    if n <= buf.len() {
-        number(rt, digest(&buf[..n]))?;
+    match buf.get(..n) {
+        Some(file) => print!(rt; " {}", digest(file)),
+        None => Ok(()),
     }
-    Ok(())
 }
 
 fn show_plain(rt: &impl Print, buf: &[u8], n: usize) -> io::Result<()> {
-    word(rt, b" |")?;
-    if n <= buf.len() {
-        number(rt, plain_number(parse_caf_file(&buf[..n])) as u64)?;
+    print!(rt; " |")?;
+    match buf.get(..n) {
+        Some(file) => print!(rt; " {}", plain_number(parse_caf_file(file))),
+        None => Ok(()),
     }
-    Ok(())
 }
 
 fn show_strict(rt: &impl Print, buf: &[u8], n: usize) -> io::Result<()> {
-    word(rt, b" |")?;
-    if n <= buf.len() {
-        show_answer(rt, read_strict(&buf[..n]))?;
+    print!(rt; " |")?;
+    match buf.get(..n) {
+        Some(file) => show_answer(rt, read_strict(file)),
+        None => Ok(()),
     }
-    Ok(())
 }
 
 // A resume, and where it is not refused a finish.
 fn show_recovery(rt: &impl Print, buf: &mut [u8], len: usize) -> io::Result<()> {
-    word(rt, b" |")?;
-    let resumed = CAFWriter::from_existing_file(buf, len);
-    number(rt, resumed.number as u64)?;
-    if resumed.number != DONE {
-        return show_digest(rt, buf, len);
+    match CAFWriter::from_existing_file(buf, len) {
+        Ok(found) => {
+            let closed = found.writer.finish(buf);
+            print!(rt; " | {DONE} {}", number_of(outcome_of(closed)))?;
+            let len = handed_back(closed).file_len;
+            show_digest(rt, buf, len)?;
+            show_strict(rt, buf, len)
+        }
+        Err(refused) => {
+            print!(rt; " | {}", refused.refusal.number())?;
+            show_digest(rt, buf, len)
+        }
     }
-    let closed = resumed.writer.finish(buf);
-    number(rt, closed.number as u64)?;
-    let len = closed.writer.file_len;
-    show_digest(rt, buf, len)?;
-    show_strict(rt, buf, len)
 }
 
 pub(crate) fn show(rt: &impl Print, film: Film) -> io::Result<()> {
-    let mut space = [0u8; ROOM];
-    let buf: &mut [u8] = &mut space;
+    let mut space = [0; ROOM];
+    let buf = space.as_mut_slice();
     let left = make(film, buf);
-    show_film(rt, film)?;
-    word(rt, b" |")?;
-    number(rt, left.number as u64)?;
-    number(rt, left.stores as u64)?;
-    number(rt, left.file_len as u64)?;
+    print!(rt;
+        "{film} | {} {} {}",
+        left.number, left.stores, left.file_len
+    )?;
     show_digest(rt, buf, left.file_len)?;
     show_plain(rt, buf, left.file_len)?;
     show_strict(rt, buf, left.file_len)?;
     show_recovery(rt, buf, left.file_len)?;
-    newline(rt)
+    println!(rt)
 }

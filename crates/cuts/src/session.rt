@@ -1,79 +1,96 @@
 // The sessions of a film, made one after the other, the last call of each cut.
-use answers::DONE;
+use answers::Refusal;
+use answers::refusal::DONE;
 use cut_films::calls::{cut_last, with_bytes, with_samples};
-use cut_films::film::{Film, SESSIONS, then};
+use cut_films::film::{Film, LastCall, LayoutBy, SESSIONS, Session, then};
 use cut_films::settings::with_settings;
+use writer::record::handed_back;
 use writer::{CAFWriter, Counted};
 
 // The longest film has 68 bytes of header and twice 251 of data.
 pub(crate) const ROOM: usize = 640;
 
-// The record that the last call finds.
-fn before_last(w: CAFWriter, buf: &mut [u8], session: usize, last: u32) -> CAFWriter {
-    let given = with_bytes(w, buf, session, last);
-    match last {
-        5 => with_samples(given, buf, session),
-        7 => {
-            let wrote = given.finish(buf);
-            wrote.writer
+// What a last call answers, and how long a file it leaves.
+#[derive(Clone, Copy)]
+pub(crate) struct Left {
+    pub number: u32,
+    pub stores: usize,
+    pub file_len: usize,
+}
+
+impl Left {
+    // A refused call stores nothing, and leaves the file as long as it was.
+    fn by(answer: Result<Counted, Refusal>, len: usize) -> Left {
+        match answer {
+            Ok(done) => Left {
+                number: DONE,
+                stores: done.stores,
+                file_len: done.file_len,
+            },
+            Err(refusal) => Left {
+                number: refusal.number(),
+                stores: 0,
+                file_len: len,
+            },
         }
+    }
+}
+
+// The record that the last call finds.
+fn before_last(w: CAFWriter, buf: &mut [u8], i: usize, last: LastCall) -> CAFWriter {
+    let given = with_bytes(w, buf, i, last);
+    match last {
+        LastCall::FinishSamples => with_samples(given, buf, i),
+        LastCall::FinishAgain => handed_back(given.finish(buf)),
         _ => given,
     }
 }
 
-fn calls(w: CAFWriter, buf: &mut [u8], session: usize, last: u32, n: usize) -> Counted {
-    let ready = before_last(w, buf, session, last);
-    cut_last(ready, buf, session, last, n)
+fn calls(w: CAFWriter, buf: &mut [u8], i: usize, session: Session) -> Left {
+    let ready = before_last(w, buf, i, session.last);
+    Left::by(
+        cut_last(ready, buf, i, session.last, session.stores),
+        ready.file_len,
+    )
 }
 
 // The first session.
-fn begun(layout: u32, buf: &mut [u8], last: u32, n: usize) -> Counted {
+fn begun(layout: LayoutBy, buf: &mut [u8], session: Session) -> Left {
     let w = with_settings(layout);
-    if last == 0 {
-        return w.write_header_counted(buf, n);
+    if session.last == LastCall::Begin {
+        return Left::by(w.write_header_counted(buf, session.stores), w.file_len);
     }
-    let wrote = w.write_header(buf);
-    calls(wrote.writer, buf, 0, last, n)
+    calls(handed_back(w.write_header(buf)), buf, 0, session)
 }
 
 // A later session, from a file of this length. Where the resume is refused it ends there.
-fn resumed(buf: &mut [u8], len: usize, session: usize, last: u32, n: usize) -> Counted {
-    if last == 0 {
-        let cut = CAFWriter::from_existing_file_counted(buf, len, n);
-        return Counted {
-            number: cut.number,
-            stores: cut.stores,
-            file_len: cut.file_len,
+fn resumed(buf: &mut [u8], len: usize, i: usize, session: Session) -> Left {
+    if session.last == LastCall::Begin {
+        return match CAFWriter::from_existing_file_counted(buf, len, session.stores) {
+            Ok(done) => Left {
+                number: DONE,
+                stores: done.stores,
+                file_len: done.file_len,
+            },
+            Err(refused) => Left::by(Err(refused.refusal), len),
         };
     }
-    let back = CAFWriter::from_existing_file(buf, len);
-    if back.number != DONE {
-        return Counted {
-            number: back.number,
-            stores: 0,
-            file_len: len,
-        };
+    match CAFWriter::from_existing_file(buf, len) {
+        Ok(found) => calls(found.writer, buf, i, session),
+        Err(refused) => Left::by(Err(refused.refusal), len),
     }
-    calls(back.writer, buf, session, last, n)
 }
 
-// The answer of the last session's last call.
-pub(crate) fn make(film: Film, buf: &mut [u8]) -> Counted {
-    let lasts = film.lasts;
-    let stores = film.stores;
-    let mut left = begun(film.layout, buf, lasts[0], stores[0]);
-    for session in 1..SESSIONS {
-        if session < film.count {
-            left = resumed(buf, left.file_len, session, lasts[session], stores[session]);
-        }
+// What stands after the last session's last call.
+pub(crate) fn make(film: Film, buf: &mut [u8]) -> Left {
+    let mut made = begun(film.layout, buf, film.sessions[0]);
+    for i in 1..film.count.min(SESSIONS) {
+        made = resumed(buf, made.file_len, i, film.sessions[i]);
     }
-    left
+    made
 }
 
 // How many stores the last call of one session more has.
-pub(crate) fn stores_of(film: Film, last: u32) -> usize {
-    let mut space = [0u8; ROOM];
-    let buf: &mut [u8] = &mut space;
-    let all = make(then(film, last, ROOM), buf);
-    all.stores
+pub(crate) fn stores_of(film: Film, last: LastCall) -> usize {
+    make(then(film, last, ROOM), &mut [0; ROOM]).stores
 }

@@ -1,6 +1,6 @@
 -- Two files are answered by the rows, and by no others.
 use mathlib.Core.Path.{◌≡◌, refl, subst}
-use mathlib.Core.Bool.{Bool, true, false, cond, not}
+use mathlib.Core.Bool.{not}
 use mathlib.Core.List.{List}
 use Prim.Native.Nat.{ℕ}
 use lib.Dec.{ltb, eqb}
@@ -9,15 +9,13 @@ use Rattle.answers.specs.Numbers.{done}
 use Rattle.format.specs.Wide.{is_wide}
 use Rattle.reading.specs.Strict.{strict}
 use Rattle.reading.specs.declared.StrictInfo.{StrictInfo}
-use Rattle.reading.specs.declared.StrictAnswer.{StrictAnswer}
-use Rattle.reading.specs.declared.StrictAnswer.TheVariants.{Accepted, Rejected}
+use Rattle.reading.specs.Shapes.{StrictAnswer, Accepted, Rejected}
 use Rattle.reading.proofs.Choice.{either}
 use Rattle.difference.specs.Sides.{channels_of}
 use Rattle.difference.specs.Compared.{number_in, side_of, by_sides, with_second, with_first, compared}
-use Rattle.difference.specs.Table
 use Rattle.difference.specs.Table.{Read, Wide, ComparedGives}
 use Rattle.difference.specs.Claims.{ComparedExactly}
-use Rattle.difference.specs.declared.Compared.{Compared}
+use Rattle.difference.specs.Answer.{Compared}
 
 module _ (s t : List ℕ) (room : ℕ) where
   module _ (v w : StrictInfo) (a : Read s v) (b : Read t w) where

@@ -5,12 +5,12 @@ use Rattle.answers.specs.Numbers.{done, no_room_left, wrong_width, cannot_compar
 use Rattle.format.specs.Wide.{is_wide}
 use Rattle.reading.specs.Strict.{strict}
 use Rattle.reading.specs.declared.StrictInfo.{StrictInfo}
-use Rattle.reading.specs.declared.StrictAnswer.TheVariants.{Accepted, Rejected}
+use Rattle.reading.specs.Shapes.{Accepted, Rejected}
 use Rattle.difference.specs.Sides.{channels_of}
 use Rattle.difference.specs.Difference.{difference}
 use Rattle.difference.specs.Compared.{number_in, side_of}
-use Rattle.difference.specs.declared.Compared.{Compared}
-use Rattle.difference.specs.declared.Compared.TheVariants.{Differing, Refused}
+use Rattle.difference.specs.Answer.{Compared}
+use Rattle.difference.specs.Answer.{Differing, Refused}
 
 -- a file that the strict reading accepts with these values and T-03 does not refuse
 pub record Read (s : List ℕ) (v : StrictInfo) : Type 0 where

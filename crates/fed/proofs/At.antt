@@ -1,4 +1,6 @@
 -- What the record knows of a whole file s when its first i bytes were fed: which part of the strict reading its phase leaves.
+use Rattle.answers.specs.Refused.{refusal_number}
+use Rattle.std.proofs.Common.{Option, None, Some}
 use mathlib.Core.Path.{◌≡◌}
 use mathlib.Core.Bool.{true, false, cond}
 use mathlib.Core.List.{List}
@@ -8,22 +10,19 @@ use lib.Dec.{ltb}
 use Rattle.answers.specs.Numbers.{cut_short, data_past_end}
 use Rattle.byte_order.specs.Big.{big_at}
 use Rattle.format.specs.declared.AudioFormat.{AudioFormat}
-use Rattle.format.specs.declared.MaybeFormat.TheVariants.{Present}
 use Rattle.reading.specs.Types.{type_size, edit_size, open_size, size_to_data}
 use Rattle.reading.specs.Step.{left, size_at, body_at}
 use Rattle.reading.specs.Rules.{Rules, Strict, Tail, is_open_size}
 use Rattle.reading.specs.Walk.{next, walk}
 use Rattle.reading.specs.Strict.{strict_answer, first_body, first_chunk, strict}
-use Rattle.reading.specs.declared.Step.{Step}
-use Rattle.reading.specs.declared.Step.TheVariants.{Skip, Closed, Data, Refused as Refuse}
-use Rattle.reading.specs.declared.StrictAnswer.{StrictAnswer}
-use Rattle.reading.specs.declared.StrictAnswer.TheVariants.{Accepted, Rejected}
+use Rattle.reading.specs.Shapes.{Step}
+use Rattle.reading.specs.Shapes.{Skip, Closed, Data, Refused as Refuse}
+use Rattle.reading.specs.Shapes.{StrictAnswer, Accepted, Rejected}
 use Rattle.feeder.specs.Record.{is_by_bytes}
 use Rattle.feeder.specs.End.{info_at}
 use Rattle.feeder.specs.declared.Phase.{Phase}
 use Rattle.feeder.specs.declared.Phase.TheVariants.{FileHeader, FirstHeader, Desc, Header, Skipping, Edit, OpenData, ClosedData, Refused}
 use Rattle.feeder.specs.declared.DataChunk.{DataChunk}
-use Rattle.feeder.specs.declared.DataChunk.TheVariants.{Ahead, Passed}
 use Rattle.feeder.specs.declared.Feeder.{Feeder}
 use Rattle.feeding.specs.Feed.{is_refused}
 use Rattle.feeding.proofs.Piece.{Holds}
@@ -42,21 +41,21 @@ abbrev pub from_edit : List ℕ → ℕ → Step
 from_edit s p = cond (ltb (left s (body_at p)) edit_size) (Refuse cut_short 1) (closing s p)
 
 -- the rules by which the strict reading goes on
-abbrev pub rules_for : DataChunk → Rules
-rules_for Ahead = Strict
-rules_for (Passed size start) = Tail (start - size_to_data) start
+abbrev pub rules_for : Option DataChunk → Rules
+rules_for None = Strict
+rules_for (Some c) = Tail (c.start - size_to_data) c.start
 
 -- the answer of a walk that has come to p with k headers met, and of one that goes on by a step
 abbrev pub walked : List ℕ → AudioFormat → Rules → ℕ → ℕ → StrictAnswer
-walked s f rules p k = strict_answer s f (walk s rules p (Present f) k)
+walked s f rules p k = strict_answer s f (walk s rules p (Some f) k)
 
 abbrev pub stepped : List ℕ → AudioFormat → Rules → ℕ → Step → StrictAnswer
-stepped s f rules k st = strict_answer s f (next (walk s) rules (Present f) k st)
+stepped s f rules k st = strict_answer s f (next (walk s) rules (Some f) k st)
 
 -- a data chunk that was passed is the file's, and closed
-abbrev pub Known : List ℕ → DataChunk → Type 0
-Known s Ahead = Unit {0}
-Known s (Passed size start) = (size ≡ big_at 8 s (start - size_to_data)) × (is_open_size size ≡ false)
+abbrev pub Known : List ℕ → Option DataChunk → Type 0
+Known s None = Unit {0}
+Known s (Some c) = (c.size ≡ big_at 8 s (c.start - size_to_data)) × (is_open_size c.size ≡ false)
 
 -- the phase tells which part of the strict reading is left. h holds n bytes, i are read, k headers met
 pub record AtFile (s : List ℕ) (i : ℕ) (h : List ℕ) (n k : ℕ) : Type 0 where
@@ -79,7 +78,7 @@ pub record AtDesc (s : List ℕ) (i : ℕ) (h : List ℕ) (n k : ℕ) : Type 0 w
   pub count : k ≡ 1
   pub rest : strict s ≡ first_body s
 
-pub record AtHeader (s : List ℕ) (i : ℕ) (h : List ℕ) (n k : ℕ) (f : AudioFormat) (d : DataChunk) : Type 0 where
+pub record AtHeader (s : List ℕ) (i : ℕ) (h : List ℕ) (n k : ℕ) (f : AudioFormat) (d : Option DataChunk) : Type 0 where
   pub p : ℕ
   pub holds : Holds h n s p
   pub place : i ≡ p + n
@@ -88,7 +87,7 @@ pub record AtHeader (s : List ℕ) (i : ℕ) (h : List ℕ) (n k : ℕ) (f : Aud
   pub known : Known s d
 
 -- in a body of which m bytes are to come: without them the answer is a refusal with this number, with them the walk goes on
-pub record AtBody (s : List ℕ) (i n k number : ℕ) (f : AudioFormat) (d : DataChunk) (m : ℕ) : Type 0 where
+pub record AtBody (s : List ℕ) (i n k number : ℕ) (f : AudioFormat) (d : Option DataChunk) (m : ℕ) : Type 0 where
   pub some : 0 < m
   pub none : n ≡ 0
   pub cut : length s < i + m → strict s ≡ Rejected number k
@@ -118,8 +117,8 @@ At s i h n k (Header f d) = AtHeader s i h n k f d
 At s i h n k (Skipping f d m) = AtBody s i n k cut_short f d m
 At s i h n k (Edit f size) = AtEdit s i h n k f size
 At s i h n k (OpenData f start) = AtOpen s i k f start
-At s i h n k (ClosedData f size start m) = AtBody s i n k data_past_end f (Passed size start) m
-At s i h n k (Refused number) = (strict s ≡ Rejected number k) × (is_by_bytes number ≡ true)
+At s i h n k (ClosedData f c m) = AtBody s i n k data_past_end f (Some c) m
+At s i h n k (Refused reason) = (strict s ≡ Rejected (refusal_number reason) k) × (is_by_bytes (refusal_number reason) ≡ true)
 
 pub record Follows (s : List ℕ) (i : ℕ) (r : Feeder) : Type 0 where
   pub room : length r.held ≡ 32

@@ -9,7 +9,7 @@ use Rattle.feeder.specs.End.{end_of, end}
 use Rattle.feeder.specs.declared.Feeder.{Feeder}
 use Rattle.feeder.proofs.Facts.{sound-tests, fresh-sound}
 use Rattle.feeding.specs.Feed.{is_refused, number_at, step1, feed_bytes, feed, feed_all}
-use Rattle.feeding.specs.declared.Fed.{Fed}
+use Rattle.feeding.specs.Feed.{Fed}
 use Rattle.feeding.proofs.Call.{feed-is, feed-not, still-sound}
 use Rattle.feeding.proofs.Step.{refused-bytes}
 use Rattle.fed.specs.Claims.{Feeds}
@@ -46,7 +46,7 @@ kept r bs =
     (λ e. ap (λ (x : Fed). sound x.feeder) (feed-is r bs e) ∙ still-sound r bs e ∙ sym e)
     (λ e. ap (λ (x : Fed). sound x.feeder) (feed-not r bs e))
 
-end-not : (r : Feeder) → sound r ≡ false → end r ≡ Rattle.reading.specs.declared.StrictAnswer.TheVariants.Rejected bad_writer 0
+end-not : (r : Feeder) → sound r ≡ false → end r ≡ Rattle.reading.specs.Shapes.Rejected bad_writer 0
 unfolding end
 end-not r e = rw e
 

@@ -1,5 +1,6 @@
 -- Worked examples: small files in blocks, with the numbers that an independent model gives for them, and records made by hand at the
 -- limit and beyond soundness.
+use Rattle.std.proofs.Common.{None}
 use mathlib.Core.Path.{◌≡◌, refl}
 use mathlib.Core.List.{List, [], ◌∷◌, ◌++◌}
 use Prim.Native.Nat.{ℕ, ◌+◌, ◌-◌}
@@ -17,7 +18,6 @@ use Rattle.feeder.specs.Record.{fresh, phase_sound, sound}
 use Rattle.feeder.specs.End.{end}
 use Rattle.feeder.specs.declared.Phase.{Phase}
 use Rattle.feeder.specs.declared.Phase.TheVariants.{FileHeader, Skipping, OpenData}
-use Rattle.feeder.specs.declared.DataChunk.TheVariants.{Ahead}
 use Rattle.feeder.specs.declared.Feeder.{Feeder}
 use Rattle.judging.specs.Judge.{judged_header, judged}
 use Rattle.feeding.specs.Feed.{collected, took, step1, feed, feed_all}
@@ -100,7 +100,7 @@ past-limit : (feed (by_hand (OpenData format 68) 0 (file_max - 1) 2) (0 ∷ 0 �
 unfolding phase_sound sound judged collected took step1 feed format_at of_bits is_nan
 past-limit = refl
 
-skip-past-limit : (feed (by_hand (Skipping format Ahead file_max) 0 (file_max - 1) 2) (0 ∷ 0 ∷ [])).number ≡ 21
+skip-past-limit : (feed (by_hand (Skipping format None file_max) 0 (file_max - 1) 2) (0 ∷ 0 ∷ [])).number ≡ 21
 unfolding phase_sound sound judged collected took step1 feed format_at of_bits is_nan
 skip-past-limit = refl
 

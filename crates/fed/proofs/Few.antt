@@ -1,4 +1,5 @@
 -- How many turns a block takes: a turn that leaves bytes of the block has finished a piece or a body.
+use Rattle.std.proofs.Common.{Option, Some, None}
 use mathlib.Core.Path.{◌≡◌, refl, sym, ◌∙◌, ap}
 use mathlib.Core.Bool.{not, true≢false}
 use mathlib.Core.List.{List, [], ◌∷◌, foldl-append}
@@ -19,7 +20,6 @@ use Rattle.feeder.specs.Record.{piece_size}
 use Rattle.feeder.specs.declared.Phase.{Phase}
 use Rattle.feeder.specs.declared.Phase.TheVariants.{FileHeader, FirstHeader, Desc, Header, Skipping, Edit, OpenData, ClosedData, Refused}
 use Rattle.feeder.specs.declared.DataChunk.{DataChunk}
-use Rattle.feeder.specs.declared.DataChunk.TheVariants.{Ahead, Passed}
 use Rattle.feeder.specs.declared.Feeder.{Feeder}
 use Rattle.feeder.proofs.Facts.{Sound, sound-facts}
 use Rattle.judging.specs.Judge.{judged_data, judged_header, begun_data, judged}
@@ -31,9 +31,9 @@ use Rattle.fed.specs.ByTurns.{turns}
 use Rattle.fed.specs.Claims.{FewTurns}
 
 -- where a phase stands between two headers, and how far a record has come. The data chunk has a piece more than others, its edit count
-abbrev begun : DataChunk → ℕ
-begun Ahead = 0
-begun (Passed size start) = 1
+abbrev begun : Option DataChunk → ℕ
+begun None = 0
+begun (Some chunk) = 1
 
 abbrev late : Phase → ℕ
 late FileHeader = 0
@@ -43,8 +43,8 @@ late (Header f d) = 1 + begun d
 late (Skipping f d left) = begun d
 late (Edit f size) = 0
 late (OpenData f start) = 1
-late (ClosedData f size start left) = 1
-late (Refused number) = 2
+late (ClosedData f chunk left) = 1
+late (Refused reason) = 2
 
 abbrev rank : Feeder → ℕ
 rank r = 2 * r.chunks + late r.phase
@@ -60,16 +60,16 @@ desc-late : (h : List ℕ) (t : ℕ) → 1 ≤ late (judged h t Desc)
 unfolding judged
 desc-late h t = either (λ (x : Phase). 1 ≤ late x) (bad_rate_at h 0) (λ _. omega arith) (λ _. omega arith)
 
-begun-small : (d : DataChunk) → begun d ≤ 1
-begun-small Ahead = omega arith
-begun-small (Passed size start) = omega arith
+begun-small : (d : Option DataChunk) → begun d ≤ 1
+begun-small None = omega arith
+begun-small (Some chunk) = omega arith
 
 -- after a header the data chunk is as far as before it, at least
-data-late : (f : AudioFormat) (d : DataChunk) (size : ℕ) → begun d ≤ late (judged_data f d size)
-data-late f Ahead size = omega arith
-data-late f (Passed z start) size = omega arith
+data-late : (f : AudioFormat) (d : Option DataChunk) (size : ℕ) → begun d ≤ late (judged_data f d size)
+data-late f None size = omega arith
+data-late f (Some chunk) size = omega arith
 
-header-late : (h : List ℕ) (f : AudioFormat) (d : DataChunk) → begun d ≤ late (judged_header h f d)
+header-late : (h : List ℕ) (f : AudioFormat) (d : Option DataChunk) → begun d ≤ late (judged_header h f d)
 unfolding judged_header
 header-late h f d =
     let P : Phase → Type 0 = λ x. begun d ≤ late x in
@@ -95,8 +95,8 @@ module _ (h h' : List ℕ) (n n' t t' k : ℕ) where
   on (Skipping f d m) c = absurd (let z : ⊥ = omega arith in z)
   on (Edit f size) c = let e = edit-late f size t' in omega arith
   on (OpenData f start) c = absurd (let z : ⊥ = omega arith in z)
-  on (ClosedData f size start m) c = absurd (let z : ⊥ = omega arith in z)
-  on (Refused number) c = absurd (let z : ⊥ = omega arith in z)
+  on (ClosedData f chunk m) c = absurd (let z : ⊥ = omega arith in z)
+  on (Refused reason) c = absurd (let z : ⊥ = omega arith in z)
 
 -- no bytes take a record back, and those that a phase wanted bring it on
 fills-rank : (phase : Phase) (h : List ℕ) (n t k : ℕ) (cs : List ℕ) → Collects phase
@@ -126,11 +126,11 @@ took-rank (Skipping f d m) h n t k cs have g l w =
     (λ x. (omega arith, λ e. absurd (true≢false (sym (eq-eqb (m - length cs) 0 (omega arith)) ∙ x))))
 took-rank (Edit f size) h n t k cs have g l w = let (a, b) = fills-rank (Edit f size) h n t k cs (omega arith) in (a, λ e. b (omega arith))
 took-rank (OpenData f start) h n t k cs have g l w = (omega arith, λ e. absurd (let z : ⊥ = omega arith in z))
-took-rank (ClosedData f size start m) h n t k cs have g l w =
+took-rank (ClosedData f chunk m) h n t k cs have g l w =
     either (λ (x : Phase). (2 * k + 1 ≤ 2 * k + late x) × (length cs ≡ m → 2 * k + 1 + 1 ≤ 2 * k + late x)) (eqb (m - length cs) 0)
     (λ _. (omega arith, λ _. omega arith))
     (λ x. (omega arith, λ e. absurd (true≢false (sym (eq-eqb (m - length cs) 0 (omega arith)) ∙ x))))
-took-rank (Refused number) h n t k cs have g l w = (omega arith, λ e. absurd (let z : ⊥ = omega arith in z))
+took-rank (Refused reason) h n t k cs have g l w = (omega arith, λ e. absurd (let z : ⊥ = omega arith in z))
 
 late-small : (phase : Phase) → late phase ≤ 2
 late-small FileHeader = omega arith
@@ -140,8 +140,8 @@ late-small (Header f d) = let b = begun-small d in omega arith
 late-small (Skipping f d m) = let b = begun-small d in omega arith
 late-small (Edit f size) = omega arith
 late-small (OpenData f start) = omega arith
-late-small (ClosedData f size start m) = omega arith
-late-small (Refused number) = omega arith
+late-small (ClosedData f chunk m) = omega arith
+late-small (Refused reason) = omega arith
 
 step-rank : (r : Feeder) (b : ℕ) → Sound r → rank r ≤ rank (step1 r b)
 unfolding step1

@@ -1,4 +1,5 @@
 -- One byte more keeps what the record knows of the file, and so do as many as its phase wants.
+use Rattle.std.proofs.Common.{Option, None, Some}
 use mathlib.Core.Path.{◌≡◌, refl, sym, ◌∙◌, ap}
 use mathlib.Core.Bool.{true, false, cond, not, ◌&&◌, true≢false}
 use mathlib.Core.List.{List, [], ◌∷◌, ◌++◌}
@@ -14,15 +15,14 @@ use Rattle.byte_order.specs.Splice.{splice}
 use Rattle.byte_order.proofs.Laws.{length-splice}
 use Rattle.format.specs.Desc.{format_at, desc_size}
 use Rattle.format.specs.declared.AudioFormat.{AudioFormat}
-use Rattle.format.specs.declared.MaybeFormat.TheVariants.{Present}
 use Rattle.reading.specs.Types.{'caff', 'desc', 'data', version, type_size, edit_size, open_size, negative, size_to_data}
 use Rattle.reading.specs.Step.{left, stands_at, size_at, body_at, bad_rate_at, skip_at}
 use Rattle.reading.specs.Rules.{Rules, Strict, Tail, is_open_size, is_bad_data_size, strict_data, step_by}
 use Rattle.reading.specs.Table.{Possible}
 use Rattle.reading.specs.Strict.{is_first_desc, strict_info, strict_answer, first_body, first_chunk, strict}
-use Rattle.reading.specs.declared.Step.{Step}
-use Rattle.reading.specs.declared.Step.TheVariants.{Data, Refused as Refuse}
-use Rattle.reading.specs.declared.StrictAnswer.TheVariants.{Accepted, Rejected}
+use Rattle.reading.specs.Shapes.{Step}
+use Rattle.reading.specs.Shapes.{Data, Refused as Refuse}
+use Rattle.reading.specs.Shapes.{Accepted, Rejected}
 use Rattle.reading.proofs.Choice.{either}
 use Rattle.reading.proofs.Place.{possible}
 use Rattle.reading.proofs.Walk.{walk-on}
@@ -30,7 +30,6 @@ use Rattle.feeder.specs.Record.{piece_size}
 use Rattle.feeder.specs.declared.Phase.{Phase}
 use Rattle.feeder.specs.declared.Phase.TheVariants.{FileHeader, FirstHeader, Desc, Header, Skipping, Edit, OpenData, ClosedData, Refused}
 use Rattle.feeder.specs.declared.DataChunk.{DataChunk}
-use Rattle.feeder.specs.declared.DataChunk.TheVariants.{Ahead, Passed}
 use Rattle.feeder.specs.declared.Feeder.{Feeder}
 use Rattle.judging.specs.Judge.{skipping, judged_data, judged_header, begun_data, judged}
 use Rattle.feeding.specs.Feed.{counted, collected, fills, took, is_refused}
@@ -46,7 +45,7 @@ least-of z (Possible.counted h g) = h
 module _ (s : List ℕ) where
   -- the strict walk takes the step that stands at its place
   pub walks : (f : AudioFormat) (rules : Rules) (p k : ℕ) (st : Step) → strict s ≡ walked s f rules p k → step_by rules s p ≡ st → strict s ≡ stepped s f rules k st
-  walks f rules p k st e g = e ∙ ap (λ (a : _). strict_answer s f a) (walk-on s rules p (Present f) k) ∙ ap (λ (x : Step). stepped s f rules k x) g
+  walks f rules p k st e g = e ∙ ap (λ (a : _). strict_answer s f a) (walk-on s rules p (Some f) k) ∙ ap (λ (x : Step). stepped s f rules k x) g
 
   -- whole pieces, where the reading stands at `to`
   module _ (to : ℕ) (on : to ≤ length s) where
@@ -87,7 +86,7 @@ module _ (s : List ℕ) where
         (λ x. record { p = 52; holds = holds-none h s 52 (omega arith); place = l; few = omega arith; rest = g ∙ rw (q, ← c, x, v); known = tt })
 
     -- m bytes of a body are to come from here on
-    body-begins : (h : List ℕ) (k number : ℕ) (f : AudioFormat) (d : DataChunk) (m : ℕ) (body : Phase) → (AtBody s to 0 k number f d m → At s to h 0 k body)
+    body-begins : (h : List ℕ) (k number : ℕ) (f : AudioFormat) (d : Option DataChunk) (m : ℕ) (body : Phase) → (AtBody s to 0 k number f d m → At s to h 0 k body)
         → (length s < to + m → strict s ≡ Rejected number k) → (to + m ≤ length s → strict s ≡ walked s f (rules_for d) (to + m) k) → Known s d
         → At s to h 0 k (cond (eqb m 0) (Header f d) body)
     body-begins h k number f d m body at cut go known =
@@ -98,7 +97,7 @@ module _ (s : List ℕ) where
         (λ x. let z = eqb-false m 0 x in at (record { some = omega arith; none = refl; cut = cut; on = go; known = known }))
 
     -- a whole chunk header: of a chunk that is skipped, of the data
-    skip-whole : (h : List ℕ) (p k : ℕ) (f : AudioFormat) (d : DataChunk) (m : ℕ) → m ≡ size_at s p → to ≡ p + 12 → Known s d
+    skip-whole : (h : List ℕ) (p k : ℕ) (f : AudioFormat) (d : Option DataChunk) (m : ℕ) → m ≡ size_at s p → to ≡ p + 12 → Known s d
         → strict s ≡ stepped s f (rules_for d) k (over_body s p) → At s to h 0 (k + 1) (skipping f d m)
     skip-whole h p k f d m c l known g =
         let e : body_at p + size_at s p ≡ to + m = omega arith in
@@ -121,15 +120,15 @@ module _ (s : List ℕ) where
       size_is : size_at h 0 ≡ size_at s p
       size_is = size_same h 12 s p o (omega arith)
 
-      desc-whole-again : (d : DataChunk) → strict s ≡ walked s f (rules_for d) p k → stands_at h 0 'desc' ≡ true → strict s ≡ Rejected bad_desc (k + 1)
+      desc-whole-again : (d : Option DataChunk) → strict s ≡ walked s f (rules_for d) p k → stands_at h 0 'desc' ≡ true → strict s ≡ Rejected bad_desc (k + 1)
       unfolding step_by
-      desc-whole-again Ahead g x = walks f Strict p k (Refuse bad_desc 1) g (rw (short, ← desc-is, x))
-      desc-whole-again (Passed size start) g x = walks f (Tail (start - size_to_data) start) p k (Refuse bad_desc 1) g (rw (short, ← desc-is, x))
+      desc-whole-again None g x = walks f Strict p k (Refuse bad_desc 1) g (rw (short, ← desc-is, x))
+      desc-whole-again (Some chunk) g x = walks f (Tail (chunk.start - size_to_data) chunk.start) p k (Refuse bad_desc 1) g (rw (short, ← desc-is, x))
 
-      data-whole : (d : DataChunk) → strict s ≡ walked s f (rules_for d) p k → stands_at h 0 'desc' ≡ false → stands_at h 0 'data' ≡ true
+      data-whole : (d : Option DataChunk) → strict s ≡ walked s f (rules_for d) p k → stands_at h 0 'desc' ≡ false → stands_at h 0 'data' ≡ true
           → At s to h 0 (k + 1) (judged_data f d (size_at h 0))
       unfolding step_by strict_data
-      data-whole Ahead g x y =
+      data-whole None g x y =
           either (λ (x : Phase). At s to h 0 (k + 1) x) (is_bad_data_size (size_at h 0))
           (λ z. (walks f Strict p k (Refuse bad_size 1) g (rw (short, ← desc-is, x, ← data_is, y, ← size_is, z)), refl))
           (λ z. record {
@@ -143,21 +142,21 @@ module _ (s : List ℕ) where
             least = least-of (size_at h 0) (possible (size_at h 0) z);
             rest = walks f Strict p k (from_edit s p) g (rw (short, ← desc-is, x, ← data_is, y, ← size_is, z));
           })
-      data-whole (Passed size start) g x y = (walks f (Tail (start - size_to_data) start) p k (Refuse second_data 1) g (rw (short, ← desc-is, x, ← data_is, y)), refl)
+      data-whole (Some chunk) g x y = (walks f (Tail (chunk.start - size_to_data) chunk.start) p k (Refuse second_data 1) g (rw (short, ← desc-is, x, ← data_is, y)), refl)
 
-      negative-whole : (d : DataChunk) → strict s ≡ walked s f (rules_for d) p k → stands_at h 0 'desc' ≡ false → stands_at h 0 'data' ≡ false → leb negative (size_at h 0) ≡ true
+      negative-whole : (d : Option DataChunk) → strict s ≡ walked s f (rules_for d) p k → stands_at h 0 'desc' ≡ false → stands_at h 0 'data' ≡ false → leb negative (size_at h 0) ≡ true
           → strict s ≡ Rejected bad_size (k + 1)
       unfolding step_by skip_at
-      negative-whole Ahead g x y z = walks f Strict p k (Refuse bad_size 1) g (rw (short, ← desc-is, x, ← data_is, y, ← size_is, z))
-      negative-whole (Passed size start) g x y z = walks f (Tail (start - size_to_data) start) p k (Refuse bad_size 1) g (rw (short, ← desc-is, x, ← data_is, y, ← size_is, z))
+      negative-whole None g x y z = walks f Strict p k (Refuse bad_size 1) g (rw (short, ← desc-is, x, ← data_is, y, ← size_is, z))
+      negative-whole (Some chunk) g x y z = walks f (Tail (chunk.start - size_to_data) chunk.start) p k (Refuse bad_size 1) g (rw (short, ← desc-is, x, ← data_is, y, ← size_is, z))
 
-      over-whole : (d : DataChunk) → strict s ≡ walked s f (rules_for d) p k → stands_at h 0 'desc' ≡ false → stands_at h 0 'data' ≡ false → leb negative (size_at h 0) ≡ false
+      over-whole : (d : Option DataChunk) → strict s ≡ walked s f (rules_for d) p k → stands_at h 0 'desc' ≡ false → stands_at h 0 'data' ≡ false → leb negative (size_at h 0) ≡ false
           → strict s ≡ stepped s f (rules_for d) k (over_body s p)
       unfolding step_by skip_at
-      over-whole Ahead g x y z = walks f Strict p k (over_body s p) g (rw (short, ← desc-is, x, ← data_is, y, ← size_is, z))
-      over-whole (Passed size start) g x y z = walks f (Tail (start - size_to_data) start) p k (over_body s p) g (rw (short, ← desc-is, x, ← data_is, y, ← size_is, z))
+      over-whole None g x y z = walks f Strict p k (over_body s p) g (rw (short, ← desc-is, x, ← data_is, y, ← size_is, z))
+      over-whole (Some chunk) g x y z = walks f (Tail (chunk.start - size_to_data) chunk.start) p k (over_body s p) g (rw (short, ← desc-is, x, ← data_is, y, ← size_is, z))
 
-      header-whole : (t : ℕ) (d : DataChunk) → strict s ≡ walked s f (rules_for d) p k → Known s d → At s to h 0 (k + 1) (judged h t (Header f d))
+      header-whole : (t : ℕ) (d : Option DataChunk) → strict s ≡ walked s f (rules_for d) p k → Known s d → At s to h 0 (k + 1) (judged h t (Header f d))
       unfolding judged judged_header
       header-whole t d g known =
           let P : Phase → Type 0 = λ x. At s to h 0 (k + 1) x in
@@ -185,7 +184,7 @@ module _ (s : List ℕ) where
         })
         (λ x. let y : is_open_size (size_at s p) ≡ false = ap is_open_size (sym is) ∙ x in
         let e : body_at p + size_at s p ≡ to + (size - edit_size) = omega arith in
-        body-begins h (k + 1) data_past_end f (Passed size start) (size - edit_size) (ClosedData f size start (size - edit_size)) (λ a. a)
+        body-begins h (k + 1) data_past_end f (Some (record { size = size; start = start })) (size - edit_size) (ClosedData f (record { size = size; start = start }) (size - edit_size)) (λ a. a)
         (λ z. g ∙ (let w : ltb (left s (body_at p)) (size_at s p) ≡ true = lt-ltb (left s (body_at p)) (size_at s p) (omega arith) in rw (y, w)))
         (λ z. g
         ∙ (let w : ltb (left s (body_at p)) (size_at s p) ≡ false = le-ltb (left s (body_at p)) (size_at s p) (omega arith) in rw (y, w))
@@ -247,7 +246,7 @@ module _ (s : List ℕ) where
           (λ z. rw a.count (desc-whole (i + length cs) on piece (t + length cs) (holds_as o z) (omega (arith, a.place)) a.rest))
           (λ z. record { holds = o; place = omega (arith, a.place); few = z; count = a.count; rest = a.rest })
 
-      header-on : (f : AudioFormat) (d : DataChunk) → n + length cs ≤ 12 → AtHeader s i h n k f d → Then (Header f d)
+      header-on : (f : AudioFormat) (d : Option DataChunk) → n + length cs ≤ 12 → AtHeader s i h n k f d → Then (Header f d)
       unfolding took
       header-on f d fit a =
           let o = piece-holds a.p a.holds (omega arith) a.place in
@@ -275,26 +274,26 @@ module _ (s : List ℕ) where
           })
 
       -- more of a body
-      body-on : (number : ℕ) (f : AudioFormat) (d : DataChunk) (m : ℕ) (body : Phase) → (AtBody s (i + length cs) 0 k number f d (m - length cs) → At s (i + length cs) h 0 k body)
+      body-on : (number : ℕ) (f : AudioFormat) (d : Option DataChunk) (m : ℕ) (body : Phase) → (AtBody s (i + length cs) 0 k number f d (m - length cs) → At s (i + length cs) h 0 k body)
           → length cs ≤ m → AtBody s i n k number f d m → At s (i + length cs) h n k (cond (eqb (m - length cs) 0) (Header f d) body)
       body-on number f d m body at fit a =
           let e : i + length cs + (m - length cs) ≡ i + m = omega arith in
           rw a.none (body-begins (i + length cs) on h k number f d (m - length cs) body at (λ x. a.cut (omega arith))
           (λ x. a.on (omega arith) ∙ ap (λ (q : ℕ). walked s f (rules_for d) q k) (sym e)) a.known)
 
-      skip-on : (f : AudioFormat) (d : DataChunk) (m : ℕ) → length cs ≤ m → AtBody s i n k cut_short f d m → Then (Skipping f d m)
+      skip-on : (f : AudioFormat) (d : Option DataChunk) (m : ℕ) → length cs ≤ m → AtBody s i n k cut_short f d m → Then (Skipping f d m)
       unfolding took
       skip-on f d m fit a =
           record { room = room; total = λ _. omega arith; within = on; at = body-on cut_short f d m (Skipping f d (m - length cs)) (λ x. x) fit a }
 
-      closed_on : (f : AudioFormat) (size start m : ℕ) → length cs ≤ m → AtBody s i n k data_past_end f (Passed size start) m → Then (ClosedData f size start m)
+      closed_on : (f : AudioFormat) (c : DataChunk) (m : ℕ) → length cs ≤ m → AtBody s i n k data_past_end f (Some c) m → Then (ClosedData f c m)
       unfolding took
-      closed_on f size start m fit a =
+      closed_on f c m fit a =
           record {
             room = room;
             total = λ _. omega arith;
             within = on;
-            at = body-on data_past_end f (Passed size start) m (ClosedData f size start (m - length cs)) (λ x. x) fit a;
+            at = body-on data_past_end f (Some c) m (ClosedData f c (m - length cs)) (λ x. x) fit a;
           }
 
       open-on : (f : AudioFormat) (start : ℕ) → AtOpen s i k f start → Then (OpenData f start)
@@ -309,8 +308,8 @@ module _ (s : List ℕ) where
       phase-on have (Skipping f d m) x some l a = skip-on f d m l a
       phase-on have (Edit f size) x some l a = edit-on f size (omega arith) a
       phase-on have (OpenData f start) x some l a = open-on f start a
-      phase-on have (ClosedData f size start m) x some l a = closed_on f size start m l a
-      phase-on have (Refused number) x some l a = absurd (true≢false x)
+      phase-on have (ClosedData f chunk m) x some l a = closed_on f chunk m l a
+      phase-on have (Refused reason) x some l a = absurd (true≢false x)
 
     -- some bytes, no more than are wanted
     pub bytes_on : (have : ℕ) (r : Feeder) → is_refused r.phase ≡ false → 0 < length cs → length cs ≤ wanted r.count have r.phase → Follows s i r
@@ -326,8 +325,8 @@ at-wants s i h n k (Header f d) a = let l = a.few in omega arith
 at-wants s i h n k (Skipping f d m) a = a.some
 at-wants s i h n k (Edit f size) a = let l = a.few in omega arith
 at-wants s i h n k (OpenData f start) a = omega arith
-at-wants s i h n k (ClosedData f size start m) a = a.some
-at-wants s i h n k (Refused number) a = omega arith
+at-wants s i h n k (ClosedData f chunk m) a = a.some
+at-wants s i h n k (Refused reason) a = omega arith
 
 pub byte-on : (s : List ℕ) (i b : ℕ) (rest : List ℕ) → drop i s ≡ b ∷ rest → (r : Feeder) → is_refused r.phase ≡ false → Follows s i r
     → Follows s (suc i) (took r (b ∷ []))

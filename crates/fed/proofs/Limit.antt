@@ -1,4 +1,5 @@
 -- Bytes beyond the longest file.
+use Rattle.std.proofs.Common.{Option, Some, None}
 use mathlib.Core.Path.{◌≡◌, refl, sym, ◌∙◌, ap}
 use mathlib.Core.Bool.{Bool, true, false, true≢false}
 use mathlib.Core.List.{List, [], ◌∷◌, foldl-append, append-nil}
@@ -10,15 +11,13 @@ use lib.Dec.{ltb, eqb}
 use Rattle.answers.specs.Numbers.{too_long, file_max}
 use Rattle.format.specs.declared.AudioFormat.{AudioFormat}
 use Rattle.reading.specs.Strict.{strict}
-use Rattle.reading.specs.declared.StrictAnswer.{StrictAnswer}
-use Rattle.reading.specs.declared.StrictAnswer.TheVariants.{Rejected}
+use Rattle.reading.specs.Shapes.{StrictAnswer, Rejected}
 use Rattle.reading.proofs.Choice.{either}
 use Rattle.feeder.specs.Record.{fresh}
 use Rattle.feeder.specs.End.{header_end, chunk_end, end_as, end_of}
 use Rattle.feeder.specs.declared.Phase.{Phase}
 use Rattle.feeder.specs.declared.Phase.TheVariants.{FileHeader, FirstHeader, Desc, Header, Skipping, Edit, OpenData, ClosedData, Refused}
 use Rattle.feeder.specs.declared.DataChunk.{DataChunk}
-use Rattle.feeder.specs.declared.DataChunk.TheVariants.{Ahead, Passed}
 use Rattle.feeder.specs.declared.Feeder.{Feeder}
 use Rattle.feeding.specs.Feed.{is_refused, step1, feed_bytes}
 use Rattle.feeding.proofs.Step.{refused-bytes, over}
@@ -30,9 +29,9 @@ use Rattle.fed.proofs.Whole.{part-follows, end_is}
 header-off : (n k : ℕ) → cut_off (header_end n k) ≡ Rejected too_long k
 header-off n k = either (λ (x : StrictAnswer). cut_off x ≡ Rejected too_long k) (ltb n 4) (λ _. refl) (λ _. refl)
 
-chunk-off : (n k : ℕ) (f : AudioFormat) (d : DataChunk) → cut_off (chunk_end n k f d) ≡ Rejected too_long k
-chunk-off n k f Ahead = header-off n k
-chunk-off n k f (Passed size start) = either (λ (x : StrictAnswer). cut_off x ≡ Rejected too_long k) (eqb n 0) (λ _. refl) (λ _. refl)
+chunk-off : (n k : ℕ) (f : AudioFormat) (d : Option DataChunk) → cut_off (chunk_end n k f d) ≡ Rejected too_long k
+chunk-off n k f None = header-off n k
+chunk-off n k f (Some chunk) = either (λ (x : StrictAnswer). cut_off x ≡ Rejected too_long k) (eqb n 0) (λ _. refl) (λ _. refl)
 
 pub off : (n t k : ℕ) (phase : Phase) → is_refused phase ≡ false → cut_off (end_as n t k phase) ≡ Rejected too_long k
 off n t k FileHeader e = refl
@@ -42,8 +41,8 @@ off n t k (Header f d) e = chunk-off n k f d
 off n t k (Skipping f d m) e = refl
 off n t k (Edit f size) e = refl
 off n t k (OpenData f start) e = refl
-off n t k (ClosedData f size start m) e = refl
-off n t k (Refused number) e = absurd (true≢false e)
+off n t k (ClosedData f chunk m) e = refl
+off n t k (Refused reason) e = absurd (true≢false e)
 
 -- and a refusal that the bytes gave stays
 given : (s : List ℕ) (i : ℕ) (h : List ℕ) (n t k : ℕ) (phase : Phase) → is_refused phase ≡ true → At s i h n k phase → cut_off (end_as n t k phase) ≡ end_as n t k phase
@@ -54,8 +53,8 @@ given s i h n t k (Header f d) e a = absurd (true≢false (sym e))
 given s i h n t k (Skipping f d m) e a = absurd (true≢false (sym e))
 given s i h n t k (Edit f size) e a = absurd (true≢false (sym e))
 given s i h n t k (OpenData f start) e a = absurd (true≢false (sym e))
-given s i h n t k (ClosedData f size start m) e a = absurd (true≢false (sym e))
-given s i h n t k (Refused number) e a = rw a.1
+given s i h n t k (ClosedData f chunk m) e a = absurd (true≢false (sym e))
+given s i h n t k (Refused reason) e a = rw a.1
 
 module _ (s : List ℕ) (long : file_max < length s) where
   abbrev up_to : List ℕ

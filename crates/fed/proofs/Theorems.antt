@@ -10,8 +10,7 @@ use borrow.Author.Tests.{leb-true, leb-false}
 use Rattle.answers.specs.Numbers.{too_long, file_max}
 use Rattle.reading.specs.Answers.{strict_count}
 use Rattle.reading.specs.Strict.{strict}
-use Rattle.reading.specs.declared.StrictAnswer.{StrictAnswer}
-use Rattle.reading.specs.declared.StrictAnswer.TheVariants.{Accepted, Rejected}
+use Rattle.reading.specs.Shapes.{StrictAnswer, Accepted, Rejected}
 use Rattle.reading.proofs.Choice.{either}
 use Rattle.feeder.specs.Record.{fresh, is_by_bytes}
 use Rattle.feeder.specs.End.{end_as, end}
@@ -77,7 +76,7 @@ at-refusal s i h n t j number k phase e g a = by phase e a
     by (Skipping f d m) e a = absurd (no (Skipping f d m) refl e)
     by (Edit f size) e a = absurd (no (Edit f size) refl e)
     by (OpenData f start) e a = absurd (no (OpenData f start) refl e)
-    by (ClosedData f size start m) e a = absurd (no (ClosedData f size start m) refl e)
+    by (ClosedData f chunk m) e a = absurd (no (ClosedData f chunk m) refl e)
     by (Refused m) e a = a.0 ∙ e
 
 pub given-by-bytes : GivenByBytes

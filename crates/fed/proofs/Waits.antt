@@ -1,4 +1,6 @@
 -- The refusals that wait for the end are not in the bytes: with others after them the strict reading answers otherwise.
+use Rattle.answers.specs.Refused.{refusal_number}
+use Rattle.std.proofs.Common.{Option, Some, None}
 use mathlib.Core.Path.{◌≡◌, refl, sym, ◌∙◌, ap}
 use mathlib.Core.Bool.{true, false, not, true≢false}
 use mathlib.Core.List.{List, [], ◌++◌, append-nil}
@@ -16,15 +18,13 @@ use Rattle.reading.specs.Step.{stands_at, bad_rate_at}
 use Rattle.reading.specs.Rules.{is_open_size}
 use Rattle.reading.specs.Strict.{strict}
 use Rattle.reading.specs.Answers.{strict_number, strict_count}
-use Rattle.reading.specs.declared.StrictAnswer.{StrictAnswer}
-use Rattle.reading.specs.declared.StrictAnswer.TheVariants.{Rejected}
+use Rattle.reading.specs.Shapes.{StrictAnswer, Rejected}
 use Rattle.reading.proofs.Choice.{either}
 use Rattle.feeder.specs.Record.{fresh, piece_size, is_by_bytes}
 use Rattle.feeder.specs.End.{header_end, chunk_end, end_as, end_of}
 use Rattle.feeder.specs.declared.Phase.{Phase}
 use Rattle.feeder.specs.declared.Phase.TheVariants.{FileHeader, FirstHeader, Desc, Header, Skipping, Edit, OpenData, ClosedData, Refused}
 use Rattle.feeder.specs.declared.DataChunk.{DataChunk}
-use Rattle.feeder.specs.declared.DataChunk.TheVariants.{Ahead, Passed}
 use Rattle.feeder.specs.declared.Feeder.{Feeder}
 use Rattle.judging.specs.Judge.{begun_data, judged}
 use Rattle.feeding.specs.Feed.{counted, collected, took, is_refused, feed_bytes}
@@ -39,9 +39,9 @@ use Rattle.fed.proofs.Whole.{part-follows, end_is, bytes-strict}
 header-count : (n k : ℕ) → strict_count (header_end n k) ≡ k
 header-count n k = either (λ (x : StrictAnswer). strict_count x ≡ k) (ltb n 4) (λ _. refl) (λ _. refl)
 
-chunk_count : (n k : ℕ) (f : AudioFormat) (d : DataChunk) → strict_count (chunk_end n k f d) ≡ k
-chunk_count n k f Ahead = header-count n k
-chunk_count n k f (Passed size start) = either (λ (x : StrictAnswer). strict_count x ≡ k) (eqb n 0) (λ _. refl) (λ _. refl)
+chunk_count : (n k : ℕ) (f : AudioFormat) (d : Option DataChunk) → strict_count (chunk_end n k f d) ≡ k
+chunk_count n k f None = header-count n k
+chunk_count n k f (Some chunk) = either (λ (x : StrictAnswer). strict_count x ≡ k) (eqb n 0) (λ _. refl) (λ _. refl)
 
 end-count : (n t k : ℕ) (phase : Phase) → strict_count (end_as n t k phase) ≡ k
 end-count n t k FileHeader = refl
@@ -51,8 +51,8 @@ end-count n t k (Header f d) = chunk_count n k f d
 end-count n t k (Skipping f d m) = refl
 end-count n t k (Edit f size) = refl
 end-count n t k (OpenData f start) = refl
-end-count n t k (ClosedData f size start m) = refl
-end-count n t k (Refused number) = refl
+end-count n t k (ClosedData f chunk m) = refl
+end-count n t k (Refused reason) = refl
 
 -- a piece that these bytes make whole
 whole_is : (phase : Phase) (h : List ℕ) (n t k : ℕ) (cs : List ℕ) → Collects phase → n + length cs ≡ piece_size phase
@@ -83,9 +83,9 @@ edit-after f size start t k =
     (λ _. either P (eqb (size - edit_size) 0) (λ _ e. omega arith) (λ _ e. omega arith))
 
 -- after a whole body no cut is met, nor data that run past the end
-chunk-after : (k number : ℕ) (f : AudioFormat) (d : DataChunk) → (number ≡ 0 → ⊥) → (number ≡ 3 → ⊥) → Not number (chunk_end 0 k f d)
-chunk-after k number f Ahead z n e = n (sym e)
-chunk-after k number f (Passed size start) z n e = z (sym e)
+chunk-after : (k number : ℕ) (f : AudioFormat) (d : Option DataChunk) → (number ≡ 0 → ⊥) → (number ≡ 3 → ⊥) → Not number (chunk_end 0 k f d)
+chunk-after k number f None z n e = n (sym e)
+chunk-after k number f (Some chunk) z n e = z (sym e)
 
 -- with bytes after s that its phase can take: the answer is what the record tells then
 abbrev Tells : List ℕ → List ℕ → ℕ → ℕ → ℕ → Phase → Type 0
@@ -141,11 +141,11 @@ module _ (s : List ℕ) (number k : ℕ) (h : List ℕ) (n t j : ℕ) where
   header_is : header_end n j ≡ Rejected number k → j ≡ k
   header_is e = sym (header-count n j) ∙ ap strict_count e
 
-  chunk-is : (f : AudioFormat) (d : DataChunk) → chunk_end n j f d ≡ Rejected number k → j ≡ k
+  chunk-is : (f : AudioFormat) (d : Option DataChunk) → chunk_end n j f d ≡ Rejected number k → j ≡ k
   chunk-is f d e = sym (chunk_count n j f d) ∙ ap strict_count e
 
   -- a body that is passed over, and closed data
-  skip-other : (f : AudioFormat) (d : DataChunk) (m : ℕ) → Tells s h n t j (Skipping f d m) → n ≡ 0 → 0 < m → number ≡ 1 → Other
+  skip-other : (f : AudioFormat) (d : Option DataChunk) (m : ℕ) → Tells s h n t j (Skipping f d m) → n ≡ 0 → 0 < m → number ≡ 1 → Other
   unfolding took
   skip-other f d m g z l i =
       let q = zeros-length m in
@@ -154,14 +154,14 @@ module _ (s : List ℕ) (number k : ℕ) (h : List ℕ) (n t j : ℕ) where
       let u : chunk_end 0 j f d ≡ strict (s ++ zeros m) = rw (w, z) at o in
       by_number (zeros m) (chunk_end 0 j f d) u (chunk-after j number f d (λ e. omega arith) (λ e. omega arith))
 
-  closed-other : (f : AudioFormat) (size start m : ℕ) → Tells s h n t j (ClosedData f size start m) → n ≡ 0 → 0 < m → number ≡ 8 → Other
+  closed-other : (f : AudioFormat) (c : DataChunk) (m : ℕ) → Tells s h n t j (ClosedData f c m) → n ≡ 0 → 0 < m → number ≡ 8 → Other
   unfolding took
-  closed-other f size start m g z l i =
+  closed-other f c m g z l i =
       let q = zeros-length m in
       let w : eqb (m - length (zeros m)) 0 ≡ true = eq-eqb (m - length (zeros m)) 0 (omega arith) in
       let o = g (zeros m) 0 refl (omega arith) (omega arith) in
-      let u : chunk_end 0 j f (Passed size start) ≡ strict (s ++ zeros m) = rw (w, z) at o in
-      by_number (zeros m) (chunk_end 0 j f (Passed size start)) u (chunk-after j number f (Passed size start) (λ e. omega arith) (λ e. omega arith))
+      let u : chunk_end 0 j f (Some c) ≡ strict (s ++ zeros m) = rw (w, z) at o in
+      by_number (zeros m) (chunk_end 0 j f (Some c)) u (chunk-after j number f (Some c) (λ e. omega arith) (λ e. omega arith))
 
   other : (phase : Phase) → Tells s h n t j phase → At s (length s) h n j phase → (is_refused phase ≡ false → t ≡ length s) → end_as n t j phase ≡ Rejected number k → is_by_bytes number ≡ false → Other
   unfolding judged
@@ -175,8 +175,8 @@ module _ (s : List ℕ) (number k : ℕ) (h : List ℕ) (n t j : ℕ) where
   other (Edit f size) g a y e b =
       by_number (fill (Edit f size)) _ (filled (Edit f size) (omega arith) refl a.few refl g) (λ i. edit-after f size (t + length (fill (Edit f size))) (t + length (fill (Edit f size))) j (i ∙ sym (ap strict_number e)))
   other (OpenData f start) g a y e b = absurd (let z : ◌≡◌ {A = ℕ} 0 1 = cc in omega arith)
-  other (ClosedData f size start m) g a y e b = closed-other f size start m g a.none a.some (sym (ap strict_number e))
-  other (Refused m) g a y e b = let i : m ≡ number = cc in absurd (true≢false (sym a.1 ∙ ap is_by_bytes i ∙ b))
+  other (ClosedData f chunk m) g a y e b = closed-other f chunk m g a.none a.some (sym (ap strict_number e))
+  other (Refused m) g a y e b = let i : refusal_number m ≡ number = cc in absurd (true≢false (sym a.1 ∙ ap is_by_bytes i ∙ b))
 
 pub waits-for-end : WaitsForEnd
 waits-for-end s number k short e b =

@@ -1,4 +1,5 @@
 -- All bytes of a file, one after the other, and the end: the strict reading.
+use Rattle.std.proofs.Common.{Option, Some, None}
 use mathlib.Core.Path.{◌≡◌, refl, sym, ◌∙◌, ap}
 use mathlib.Core.Bool.{true, false, true≢false}
 use mathlib.Core.List.{List, [], ◌∷◌, ◌++◌, append-nil}
@@ -17,16 +18,14 @@ use Rattle.reading.specs.Step.{left, body_at}
 use Rattle.reading.specs.Rules.{Strict, Tail, is_open_size, step_by}
 use Rattle.reading.specs.Strict.{strict_info, first_chunk, strict}
 use Rattle.reading.specs.declared.StrictInfo.{StrictInfo}
-use Rattle.reading.specs.declared.Step.TheVariants.{End, Refused as Refuse}
-use Rattle.reading.specs.declared.StrictAnswer.{StrictAnswer}
-use Rattle.reading.specs.declared.StrictAnswer.TheVariants.{Accepted, Rejected}
+use Rattle.reading.specs.Shapes.{End, Refused as Refuse}
+use Rattle.reading.specs.Shapes.{StrictAnswer, Accepted, Rejected}
 use Rattle.reading.proofs.Choice.{either}
 use Rattle.feeder.specs.Record.{held_room, fresh}
 use Rattle.feeder.specs.End.{header_end, chunk_end, end_as, end_of}
 use Rattle.feeder.specs.declared.Phase.{Phase}
 use Rattle.feeder.specs.declared.Phase.TheVariants.{FileHeader, FirstHeader, Desc, Header, Skipping, Edit, OpenData, ClosedData, Refused}
 use Rattle.feeder.specs.declared.DataChunk.{DataChunk}
-use Rattle.feeder.specs.declared.DataChunk.TheVariants.{Ahead, Passed}
 use Rattle.feeder.specs.declared.Feeder.{Feeder}
 use Rattle.feeding.specs.Feed.{is_refused, step1, feed_bytes}
 use Rattle.feeding.proofs.Piece.{holds-none}
@@ -42,8 +41,8 @@ stays s i j h n k (Header f d) x a = absurd (true≢false (sym x))
 stays s i j h n k (Skipping f d m) x a = absurd (true≢false (sym x))
 stays s i j h n k (Edit f size) x a = absurd (true≢false (sym x))
 stays s i j h n k (OpenData f start) x a = absurd (true≢false (sym x))
-stays s i j h n k (ClosedData f size start m) x a = absurd (true≢false (sym x))
-stays s i j h n k (Refused number) x a = a
+stays s i j h n k (ClosedData f chunk m) x a = absurd (true≢false (sym x))
+stays s i j h n k (Refused reason) x a = a
 
 module _ (s : List ℕ) where
   step-on : (i b : ℕ) (rest : List ℕ) (r : Feeder) → drop i s ≡ b ∷ rest → i < file_max → Follows s i r → Follows s (suc i) (step1 r b)
@@ -98,10 +97,11 @@ module _ (s : List ℕ) where
   closed-info : (f : AudioFormat) (size position start after : ℕ) → is_open_size size ≡ false → strict_info f size position start (size - edit_size) ≡ strict_info f size position start after
   closed-info f size position start after e = rw e
 
-  cut-tail : (n p k : ℕ) (f : AudioFormat) (size start : ℕ) → strict s ≡ walked s f (Tail (start - size_to_data) start) p k → left s p ≡ n → n < 12 → Known s (Passed size start)
-      → chunk_end n k f (Passed size start) ≡ strict s
+  cut-tail : (n p k : ℕ) (f : AudioFormat) (c : DataChunk) → strict s ≡ walked s f (rules_for (Some c)) p k → left s p ≡ n → n < 12 → Known s (Some c)
+      → chunk_end n k f (Some c) ≡ strict s
   unfolding step_by
-  cut-tail n p k f size start g e l known =
+  cut-tail n p k f c g e l known =
+      let record { size = size; start = start } = c in
       let w : ltb n 12 ≡ true = lt-ltb n 12 l in
       let by = Tail (start - size_to_data) start in
       either (λ (x : StrictAnswer). x ≡ strict s) (eqb n 0)
@@ -110,9 +110,9 @@ module _ (s : List ℕ) where
       ∙ sym (walks s f by p k (End (start - size_to_data) start) g (rw (e, w, x))))
       (λ x. sym (walks s f by p k (Refuse cut_short 0) g (rw (e, w, x)) ∙ ap (λ (j : ℕ). Rejected cut_short j) (add-zero k)))
 
-  cut-chunk : (n p k : ℕ) (f : AudioFormat) (d : DataChunk) → strict s ≡ walked s f (rules_for d) p k → left s p ≡ n → n < 12 → Known s d → chunk_end n k f d ≡ strict s
-  cut-chunk n p k f Ahead g e l known = cut-header n p k f g e l
-  cut-chunk n p k f (Passed size start) g e l known = cut-tail n p k f size start g e l known
+  cut-chunk : (n p k : ℕ) (f : AudioFormat) (d : Option DataChunk) → strict s ≡ walked s f (rules_for d) p k → left s p ≡ n → n < 12 → Known s d → chunk_end n k f d ≡ strict s
+  cut-chunk n p k f None g e l known = cut-header n p k f g e l
+  cut-chunk n p k f (Some chunk) g e l known = cut-tail n p k f chunk g e l known
 
   cut-first : (n : ℕ) → strict s ≡ first_chunk s → left s 8 ≡ n → n < 12 → header_end n 0 ≡ strict s
   cut-first n g e l =
@@ -133,8 +133,8 @@ module _ (s : List ℕ) where
         let w : ltb (left s (body_at a.p)) edit_size ≡ true = lt-ltb (left s (body_at a.p)) edit_size (omega (arith, a.place, a.few)) in
         rw a.count (sym (a.rest ∙ rw w))
     end-as t (OpenData f start) e a = rw (e refl) (sym a.rest)
-    end-as t (ClosedData f size start m) e a = sym (a.cut (omega (arith, a.some)))
-    end-as t (Refused number) e a = sym a.0
+    end-as t (ClosedData f chunk m) e a = sym (a.cut (omega (arith, a.some)))
+    end-as t (Refused reason) e a = sym a.0
 
   pub end_is : (r : Feeder) → Follows s (length s) r → end_of r ≡ strict s
   end_is r a = end-as r.held r.count r.chunks r.total r.phase a.total a.at

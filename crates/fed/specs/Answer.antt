@@ -2,8 +2,7 @@
 use Rattle.std.specs.Prelude.{ℕ, cond, List, length, take, leb}
 use Rattle.answers.specs.Numbers.{too_long, file_max}
 use Rattle.reading.specs.Strict.{strict}
-use Rattle.reading.specs.declared.StrictAnswer.{StrictAnswer}
-use Rattle.reading.specs.declared.StrictAnswer.TheVariants.{Accepted, Rejected}
+use Rattle.reading.specs.Shapes.{StrictAnswer, Accepted, Rejected}
 use Rattle.feeder.specs.Record.{is_by_bytes}
 
 -- 02, T-01, TooLong: the strict answer for the bytes up to the limit, where more follow. A refusal that those bytes gave stays; what

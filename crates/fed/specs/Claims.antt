@@ -4,7 +4,7 @@ use mathlib.Core.List.{List, [], ◌++◌, flatten}
 use Rattle.answers.specs.Numbers.{bad_writer, file_max}
 use Rattle.reading.specs.Answers.{strict_count}
 use Rattle.reading.specs.Strict.{strict}
-use Rattle.reading.specs.declared.StrictAnswer.TheVariants.{Rejected}
+use Rattle.reading.specs.Shapes.{Rejected}
 use Rattle.feeder.specs.Record.{held_room, fresh, is_by_bytes, sound}
 use Rattle.feeder.specs.End.{end}
 use Rattle.feeder.specs.declared.Feeder.{Feeder}

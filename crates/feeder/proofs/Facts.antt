@@ -1,11 +1,13 @@
 -- The tests of soundness, as facts, and back.
-use mathlib.Core.Path.{◌≡◌, refl, sym, ◌∙◌}
+use mathlib.Core.Path.{◌≡◌, refl}
+use Rattle.std.proofs.Common.{Option, Some, None}
 use mathlib.Core.Bool.{Bool, true, false, not, ◌&&◌, ◌||◌}
-use Prim.Native.Nat.{ℕ, zero, suc, ◌+◌, ◌-◌, ◌*◌, ◌/◌, ◌<◌, ◌≤◌}
+use Prim.Native.Nat.{ℕ, ◌+◌, ◌-◌, ◌*◌, ◌<◌, ◌≤◌}
 use native.Mathlib.Omega.{arith}
 use lib.Dec.{ltb, leb, eqb}
-use borrow.Author.Tests.{ne_eqb, eqb-true, leb-true, leb-false, ltb-true, not-true, eq-eqb, le-leb, lt-leb, lt-ltb}
+use borrow.Author.Tests.{eqb-true, leb-true, ltb-true, not-true, eq-eqb, le-leb, lt-ltb}
 use Rattle.answers.specs.Numbers.{too_long, file_max}
+use Rattle.answers.specs.Refused.{refusal_number}
 use Rattle.format.specs.declared.AudioFormat.{AudioFormat}
 use Rattle.reading.specs.Types.{negative}
 use Rattle.reading.specs.Rules.{is_bad_data_size}
@@ -14,7 +16,6 @@ use Rattle.feeder.specs.Record.{fresh, piece_size, is_by_bytes, rate_is, met_wit
 use Rattle.feeder.specs.declared.Phase.{Phase}
 use Rattle.feeder.specs.declared.Phase.TheVariants.{FileHeader, FirstHeader, Desc, Header, Skipping, Edit, OpenData, ClosedData, Refused}
 use Rattle.feeder.specs.declared.DataChunk.{DataChunk}
-use Rattle.feeder.specs.declared.DataChunk.TheVariants.{Ahead, Passed}
 use Rattle.feeder.specs.declared.Feeder.{Feeder}
 
 -- two tests that hold each hold together
@@ -41,15 +42,15 @@ pub record InPassed (size start n : ℕ) : Type 0 where
   pub to : start ≤ n
   pub whole : size - 4 ≤ n - start
 
-abbrev pub PassedIn : DataChunk → ℕ → Type 0
-PassedIn Ahead n = Unit {0}
-PassedIn (Passed size start) n = InPassed size start n
+abbrev pub PassedIn : Option DataChunk → ℕ → Type 0
+PassedIn None n = Unit {0}
+PassedIn (Some c) n = InPassed c.size c.start n
 
-pub record InChunk (n total k : ℕ) (f : AudioFormat) (d : DataChunk) : Type 0 where
+pub record InChunk (n total k : ℕ) (f : AudioFormat) (d : Option DataChunk) : Type 0 where
   pub head : InHeader n total k f
   pub passed : PassedIn d (total - n)
 
-pub record InSkip (total k : ℕ) (f : AudioFormat) (d : DataChunk) (m : ℕ) : Type 0 where
+pub record InSkip (total k : ℕ) (f : AudioFormat) (d : Option DataChunk) (m : ℕ) : Type 0 where
   pub rate : rate_is f ≡ true
   pub met : Met k total
   pub passed : PassedIn d total
@@ -84,8 +85,8 @@ Facts n total k (Header f d) = InChunk n total k f d
 Facts n total k (Skipping f d m) = InSkip total k f d m
 Facts n total k (Edit f size) = InEdit n total k f size
 Facts n total k (OpenData f start) = InOpen total k f start
-Facts n total k (ClosedData f size start m) = InClosed total k f size start m
-Facts n total k (Refused number) = (12 * k ≤ total) × (eqb number too_long || is_by_bytes number ≡ true)
+Facts n total k (ClosedData f c m) = InClosed total k f c.size c.start m
+Facts n total k (Refused reason) = (12 * k ≤ total) × (eqb (refusal_number reason) too_long || is_by_bytes (refusal_number reason) ≡ true)
 
 met-facts : (k n : ℕ) → met_within k n ≡ true → Met k n
 met-facts k n e = let (a, b) = both (leb 1 k) (leb (52 + 12 * (k - 1)) n) e in record { one = leb-true 1 k a; within = leb-true (52 + 12 * (k - 1)) n b }
@@ -93,25 +94,26 @@ met-facts k n e = let (a, b) = both (leb 1 k) (leb (52 + 12 * (k - 1)) n) e in r
 pub met-far : (k n m : ℕ) → Met k n → n ≤ m → Met k m
 met-far k n m a l = let b = a.within in record { one = a.one; within = omega arith }
 
-pub before-facts : (n bytes k : ℕ) (f : AudioFormat) → headers_before n bytes k f ≡ true → InHeader n bytes k f
+before-facts : (n bytes k : ℕ) (f : AudioFormat) → headers_before n bytes k f ≡ true → InHeader n bytes k f
 before-facts n bytes k f e =
     let (a, m) = both (rate_is f && leb n bytes) (met_within k (bytes - n)) e in
     let (r, l) = both (rate_is f) (leb n bytes) a in
     record { rate = r; come = leb-true n bytes l; met = met-facts k (bytes - n) m }
 
-pub closed_facts : (size : ℕ) → is_closed_size size ≡ true → (4 ≤ size) × (size < negative)
+closed_facts : (size : ℕ) → is_closed_size size ≡ true → (4 ≤ size) × (size < negative)
 closed_facts size e = let (a, b) = both (leb 4 size) (ltb size negative) e in (leb-true 4 size a, ltb-true size negative b)
 
-passed-facts : (d : DataChunk) (n : ℕ) → passed_within d n ≡ true → PassedIn d n
-passed-facts Ahead n e = tt
-passed-facts (Passed size start) n e =
+passed-facts : (d : Option DataChunk) (n : ℕ) → passed_within d n ≡ true → PassedIn d n
+passed-facts None n e = tt
+passed-facts (Some chunk) n e =
+    let record { size = size; start = start } = chunk in
     let (a, w) = both (is_closed_size size && leb 56 start && leb start n) (leb (size - 4) (n - start)) e in
     let (b, t) = both (is_closed_size size && leb 56 start) (leb start n) a in
     let (c, g) = both (is_closed_size size) (leb 56 start) b in
     let s = closed_facts size c in
     record { least = s.0; few = s.1; from = leb-true 56 start g; to = leb-true start n t; whole = leb-true (size - 4) (n - start) w }
 
-pub open-facts : (total k : ℕ) (f : AudioFormat) (start : ℕ) → leb start total && headers_before 4 start k f ≡ true → InOpen total k f start
+open-facts : (total k : ℕ) (f : AudioFormat) (start : ℕ) → leb start total && headers_before 4 start k f ≡ true → InOpen total k f start
 open-facts total k f start e =
     let (l, b) = both (leb start total) (headers_before 4 start k f) e in
     let h = before-facts 4 start k f b in
@@ -136,7 +138,8 @@ facts n total k (Edit f size) e =
     let h = before-facts n total k f a in
     record { rate = h.rate; come = h.come; met = h.met; possible = not-true (is_bad_data_size size) p }
 facts n total k (OpenData f start) e = open-facts total k f start e
-facts n total k (ClosedData f size start m) e =
+facts n total k (ClosedData f chunk m) e =
+    let record { size = size; start = start } = chunk in
     let (a, q) = both (leb start total && headers_before 4 start k f && is_closed_size size && leb 1 m && leb m (size - 4)) (eqb (total - start) (size - 4 - m)) e in
     let (b, g) = both (leb start total && headers_before 4 start k f && is_closed_size size && leb 1 m) (leb m (size - 4)) a in
     let (c, s) = both (leb start total && headers_before 4 start k f && is_closed_size size) (leb 1 m) b in
@@ -150,7 +153,7 @@ facts n total k (ClosedData f size start m) e =
       fits = leb-true m (size - 4) g;
       come = eqb-true (total - start) (size - 4 - m) q;
     }
-facts n total k (Refused number) e = let (a, b) = both (leb (12 * k) total) (eqb number too_long || is_by_bytes number) e in (leb-true (12 * k) total a, b)
+facts n total k (Refused reason) e = let (a, b) = both (leb (12 * k) total) (eqb (refusal_number reason) too_long || is_by_bytes (refusal_number reason)) e in (leb-true (12 * k) total a, b)
 
 met-tests : (k n : ℕ) → Met k n → met_within k n ≡ true
 met-tests k n m = join (le-leb 1 k m.one) (le-leb (52 + 12 * (k - 1)) n m.within)
@@ -161,9 +164,10 @@ before-tests n bytes k f a = join (join a.rate (le-leb n bytes a.come)) (met-tes
 closed-tests : (size : ℕ) → 4 ≤ size → size < negative → is_closed_size size ≡ true
 closed-tests size a b = join (le-leb 4 size a) (lt-ltb size negative b)
 
-passed-tests : (d : DataChunk) (n : ℕ) → PassedIn d n → passed_within d n ≡ true
-passed-tests Ahead n a = refl
-passed-tests (Passed size start) n a =
+passed-tests : (d : Option DataChunk) (n : ℕ) → PassedIn d n → passed_within d n ≡ true
+passed-tests None n a = refl
+passed-tests (Some chunk) n a =
+    let record { size = size; start = start } = chunk in
     join (join (join (closed-tests size a.least a.few) (le-leb 56 start a.from)) (le-leb start n a.to)) (le-leb (size - 4) (n - start) a.whole)
 
 open-tests : (total k : ℕ) (f : AudioFormat) (start : ℕ) → InOpen total k f start → leb start total && headers_before 4 start k f ≡ true
@@ -180,10 +184,11 @@ tests n total k (Skipping f d m) a =
     (passed-tests d total a.passed)) (le-leb 1 m a.some)) (lt-ltb m negative a.few)
 tests n total k (Edit f size) a = join (before-tests n total k f (record { rate = a.rate; come = a.come; met = a.met })) (not_is a.possible)
 tests n total k (OpenData f start) a = open-tests total k f start a
-tests n total k (ClosedData f size start m) a =
+tests n total k (ClosedData f chunk m) a =
+    let record { size = size; start = start } = chunk in
     join (join (join (join (open-tests total k f start a.data-at) (closed-tests size a.least a.few)) (le-leb 1 m a.some)) (le-leb m (size - 4) a.fits))
     (eq-eqb (total - start) (size - 4 - m) a.come)
-tests n total k (Refused number) a = join (le-leb (12 * k) total a.0) a.1
+tests n total k (Refused reason) a = join (le-leb (12 * k) total a.0) a.1
 
 pub record Sound (r : Feeder) : Type 0 where
   pub total : r.total ≤ file_max
@@ -216,34 +221,18 @@ chunks-few n t k (Header f d) a = let m = a.head.met.within in let o = a.head.me
 chunks-few n t k (Skipping f d m) a = let m = a.met.within in let o = a.met.one in omega arith
 chunks-few n t k (Edit f size) a = let m = a.met.within in let o = a.met.one in omega arith
 chunks-few n t k (OpenData f start) a = let m = a.met.within in let o = a.met.one in let p = a.past in omega arith
-chunks-few n t k (ClosedData f size start m) a = let q = a.data-at.met.within in let o = a.data-at.met.one in let p = a.data-at.past in omega arith
-chunks-few n t k (Refused number) a = a.0
+chunks-few n t k (ClosedData f c m) a = let q = a.data-at.met.within in let o = a.data-at.met.one in let p = a.data-at.past in omega arith
+chunks-few n t k (Refused reason) a = a.0
 
 pub fresh-sound : Sound fresh
 fresh-sound = record { total = omega arith; few = omega arith; facts = (refl, refl) }
-
--- where no piece is collected, no byte is held
-pub none-held : (n : ℕ) → eqb n 0 ≡ leb n 0
-none-held zero = refl
-none-held (suc n) = ne_eqb (suc n) 0 (λ e. let z : ⊥ = omega arith in z) ∙ sym (lt-leb (suc n) 0 (omega arith))
-
--- the test of the headers by division: no number outgrows 64 bits
-pub met-divided : (k n : ℕ) → 1 ≤ k → 52 ≤ n → leb (k - 1) ((n - 52) / 12) ≡ met_within k n
-met-divided k n a b = rw (le-leb 1 k a) (by (leb (k - 1) ((n - 52) / 12)) refl)
-  where
-    by : (x : Bool) → leb (k - 1) ((n - 52) / 12) ≡ x → x ≡ leb (52 + 12 * (k - 1)) n
-    by true e = sym (le-leb (52 + 12 * (k - 1)) n (let l = leb-true (k - 1) ((n - 52) / 12) e in omega arith))
-    by false e = sym (lt-leb (52 + 12 * (k - 1)) n (let l = leb-false (k - 1) ((n - 52) / 12) e in omega arith))
 
 -- a sound record that stands in open data, or where a chunk header is due
 pub in-open : (r : Feeder) {f : AudioFormat} {start : ℕ} → sound r ≡ true → r.phase ≡ OpenData f start → InOpen r.total r.chunks f start
 in-open r s e = rw e at (sound-facts r s).facts
 
-pub in-chunk : (r : Feeder) {f : AudioFormat} {d : DataChunk} → sound r ≡ true → r.phase ≡ Header f d → InChunk r.count r.total r.chunks f d
+pub in-chunk : (r : Feeder) {f : AudioFormat} {d : Option DataChunk} → sound r ≡ true → r.phase ≡ Header f d → InChunk r.count r.total r.chunks f d
 in-chunk r s e = rw e at (sound-facts r s).facts
 
-pub passed-in : (size start n : ℕ) → passed_within (Passed size start) n ≡ true → InPassed size start n
-passed-in size start n e = passed-facts (Passed size start) n e
-
-pub passed_is : (d : DataChunk) (n : ℕ) → PassedIn d n → passed_within d n ≡ true
+pub passed_is : (d : Option DataChunk) (n : ℕ) → PassedIn d n → passed_within d n ≡ true
 passed_is = passed-tests

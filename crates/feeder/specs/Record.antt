@@ -1,6 +1,7 @@
 -- 02, T-01 and T-05: the record that is fed, and when it is sound.
-use Rattle.std.specs.Prelude.{ℕ, ◌+◌, ◌-◌, ◌*◌, Bool, true, not, ◌&&◌, ◌||◌, replicate, leb, ltb, eqb}
+use Rattle.std.specs.Prelude.{ℕ, Option, Some, None, ◌+◌, ◌-◌, ◌*◌, Bool, true, not, ◌&&◌, ◌||◌, replicate, leb, ltb, eqb}
 use Rattle.answers.specs.Numbers.{not_caf, bad_size, bad_rate, bad_version, bad_desc, second_data, too_long, file_max}
+use Rattle.answers.specs.Refused.{refusal_number}
 use Rattle.byte_order.specs.Rate.{not_aNumber}
 use Rattle.format.specs.Desc.{desc_size}
 use Rattle.format.specs.declared.AudioFormat.{AudioFormat}
@@ -10,7 +11,6 @@ use Rattle.reading.specs.Rules.{is_bad_data_size}
 use Rattle.feeder.specs.declared.Phase.{Phase}
 use Rattle.feeder.specs.declared.Phase.TheVariants.{FileHeader, FirstHeader, Desc, Header, Skipping, Edit, OpenData, ClosedData, Refused}
 use Rattle.feeder.specs.declared.DataChunk.{DataChunk}
-use Rattle.feeder.specs.declared.DataChunk.TheVariants.{Ahead, Passed}
 use Rattle.feeder.specs.declared.Feeder.{Feeder}
 
 -- the longest piece is the body of a `desc`
@@ -37,8 +37,8 @@ piece_size (Header f d) = chunk_header_size
 piece_size (Skipping f d left) = 0
 piece_size (Edit f size) = edit_size
 piece_size (OpenData f start) = 0
-piece_size (ClosedData f size start left) = 0
-piece_size (Refused number) = 0
+piece_size (ClosedData f c left) = 0
+piece_size (Refused reason) = 0
 
 -- the refusals that the bytes themselves give, as soon as the piece is whole that tells them. All others (CutShort, NoData and
 -- DataPastEnd) wait for the end
@@ -67,9 +67,9 @@ abbrev pub is_closed_size : ℕ → Bool
 is_closed_size size = leb edit_size size && ltb size negative
 
 -- a data chunk that was passed lies after the first chunk, and within the first n bytes
-abbrev pub passed_within : DataChunk → ℕ → Bool
-passed_within Ahead n = true
-passed_within (Passed size start) n = is_closed_size size && leb (after_the_first + edit_size) start && leb start n && leb (size - edit_size) (n - start)
+abbrev pub passed_within : Option DataChunk → ℕ → Bool
+passed_within None n = true
+passed_within (Some c) n = is_closed_size c.size && leb (after_the_first + edit_size) c.start && leb c.start n && leb (c.size - edit_size) (n - c.start)
 
 -- with n bytes of a piece held, of `total` read, and k chunk headers met
 unfoldable pub phase_sound : ℕ → ℕ → ℕ → Phase → Bool
@@ -80,9 +80,9 @@ phase_sound n total k (Header f d) = headers_before n total k f && passed_within
 phase_sound n total k (Skipping f d left) = headers_before 0 total k f && passed_within d total && leb 1 left && ltb left negative
 phase_sound n total k (Edit f size) = headers_before n total k f && not (is_bad_data_size size)
 phase_sound n total k (OpenData f start) = leb start total && headers_before edit_size start k f
-phase_sound n total k (ClosedData f size start left) =
-    leb start total && headers_before edit_size start k f && is_closed_size size && leb 1 left && leb left (size - edit_size) && eqb (total - start) (size - edit_size - left)
-phase_sound n total k (Refused number) = leb (chunk_header_size * k) total && (eqb number too_long || is_by_bytes number)
+phase_sound n total k (ClosedData f c left) =
+    leb c.start total && headers_before edit_size c.start k f && is_closed_size c.size && leb 1 left && leb left (c.size - edit_size) && eqb (total - c.start) (c.size - edit_size - left)
+phase_sound n total k (Refused reason) = leb (chunk_header_size * k) total && (eqb (refusal_number reason) too_long || is_by_bytes (refusal_number reason))
 
 -- a record that calls may have made. No more is read than a file may have, fewer bytes are held than the piece has, and none where
 -- no piece is collected. BadWriter (19) refuses another

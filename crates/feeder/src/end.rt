@@ -1,15 +1,17 @@
 // The end call: what the strict reading says of all that was fed. It changes nothing, so that it may be called twice.
 ghost use Rattle.std.specs.Prelude.{◌≡◌, true, ◌≤◌};
+ghost use Rattle.answers.specs.Refused.{refusal_number};
+ghost use Rattle.reading.specs.Shapes.{strict_of};
 ghost use Rattle.feeder.specs.Record.{passed_within, sound};
 ghost use Rattle.feeder.specs.End.{info_at, header_end, chunk_end, end_of, end};
 
 use crate::sound::is_sound;
 use crate::{DataChunk, Feeder, Phase};
-use answers::{BAD_WRITER, CUT_SHORT, DATA_PAST_END, NO_DATA};
+use answers::Refusal;
 use format::AudioFormat;
 use reading::sizes::{EDIT_COUNT, OPEN, SIZE_TO_DATA, TYPE};
 use reading::strict::strict_info;
-use reading::{StrictAnswer, StrictInfo};
+use reading::{AcceptedFile, RefusedFile, StrictInfo};
 
 fn info_at(format: AudioFormat, size: u64, start: usize, after: usize) -> StrictInfo
     requires { 12 ≤ start }
@@ -19,13 +21,15 @@ fn info_at(format: AudioFormat, size: u64, start: usize, after: usize) -> Strict
 }
 
 // A chunk header that did not come whole.
-fn header_end(n: usize, chunks: usize) -> StrictAnswer
-    ensures { result ≡ header_end n chunks }
+fn header_end(n: usize, chunks: usize) -> Result<AcceptedFile, RefusedFile>
+    ensures { strict_of result ≡ header_end n chunks }
 {
-    if n < TYPE {
-        return StrictAnswer::Rejected(NO_DATA, chunks);
-    }
-    StrictAnswer::Rejected(CUT_SHORT, chunks)
+    let refusal = if n < TYPE {
+        Refusal::NoData
+    } else {
+        Refusal::CutShort
+    };
+    Err(RefusedFile::new(refusal, chunks))
 }
 
 // After the data, which lie within the first m bytes, the file may end here.
@@ -33,53 +37,52 @@ fn chunk_end(
     n: usize,
     chunks: usize,
     format: AudioFormat,
-    data: DataChunk,
+    data: Option<DataChunk>,
     m: usize,
-) -> StrictAnswer
+) -> Result<AcceptedFile, RefusedFile>
     requires { passed_within «data» m ≡ true }
-    ensures { result ≡ chunk_end n chunks format «data» }
+    ensures { strict_of result ≡ chunk_end n chunks format «data» }
 {
     match data {
-        DataChunk::Ahead => header_end(n, chunks),
-        DataChunk::Passed(size, start) => {
-            if n == 0 {
-                return StrictAnswer::Accepted(
-                    info_at(format, size, start, size as usize - EDIT_COUNT),
-                    chunks,
-                );
-            }
-            StrictAnswer::Rejected(CUT_SHORT, chunks)
+        None => header_end(n, chunks),
+        Some(DataChunk { size, start }) if n == 0 => {
+            let info = info_at(format, size, start, size as usize - EDIT_COUNT);
+            Ok(AcceptedFile { info, chunks })
         }
+        Some(_) => Err(RefusedFile::new(Refusal::CutShort, chunks)),
     }
 }
 
-fn end_of(r: Feeder) -> StrictAnswer
+fn end_of(r: Feeder) -> Result<AcceptedFile, RefusedFile>
     requires { sound r ≡ true }
-    ensures { result ≡ end_of r }
+    ensures { strict_of result ≡ end_of r }
 {
-    let phase = r.phase;
-    match phase {
-        Phase::FileHeader => StrictAnswer::Rejected(CUT_SHORT, r.chunks),
+    match r.phase {
         Phase::FirstHeader => header_end(r.count, r.chunks),
-        Phase::Desc => StrictAnswer::Rejected(CUT_SHORT, r.chunks),
         Phase::Header(format, data) => {
             chunk_end(r.count, r.chunks, format, data, r.total - r.count)
         }
-        Phase::Skipping(_, _, _) => StrictAnswer::Rejected(CUT_SHORT, r.chunks),
-        Phase::Edit(_, _) => StrictAnswer::Rejected(CUT_SHORT, r.chunks),
         Phase::OpenData(format, start) => {
-            StrictAnswer::Accepted(info_at(format, OPEN, start, r.total - start), r.chunks)
+            let info = info_at(format, OPEN, start, r.total - start);
+            Ok(AcceptedFile {
+                info,
+                chunks: r.chunks,
+            })
         }
-        Phase::ClosedData(_, _, _, _) => StrictAnswer::Rejected(DATA_PAST_END, r.chunks),
-        Phase::Refused(number) => StrictAnswer::Rejected(number, r.chunks),
+        Phase::ClosedData(..) => Err(RefusedFile::new(Refusal::DataPastEnd, r.chunks)),
+        Phase::Refused(refusal) => Err(RefusedFile::new(refusal, r.chunks)),
+        // inside the file header, the first chunk, a body that is passed over, or an edit count
+        _ => Err(RefusedFile::new(Refusal::CutShort, r.chunks)),
     }
 }
 
-pub fn end(r: Feeder) -> StrictAnswer
-    ensures { result ≡ end r }
+#[tactic(auto, unfolding(crate::specs::End::end))]
+pub fn end(r: Feeder) -> Result<AcceptedFile, RefusedFile>
+    ensures { strict_of result ≡ end r }
 {
-    if !is_sound(r) {
-        return StrictAnswer::Rejected(BAD_WRITER, 0);
+    if is_sound(r) {
+        end_of(r)
+    } else {
+        Err(RefusedFile::new(Refusal::BadWriter, 0))
     }
-    end_of(r)
 }

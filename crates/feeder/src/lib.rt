@@ -5,13 +5,14 @@ pub mod end;
 pub mod pieces;
 pub mod sound;
 
+use answers::Refusal;
 use format::AudioFormat;
 
-// The data chunk: still to come, or closed and passed over, with its size field and the position where the data start.
+// A closed data chunk: its size field, and the position where its data start.
 #[derive(Clone, Copy)]
-pub enum DataChunk {
-    Ahead,
-    Passed(u64, usize),
+pub struct DataChunk {
+    pub size: u64,
+    pub start: usize,
 }
 
 // What the reader of blocks waits for.
@@ -23,18 +24,19 @@ pub enum Phase {
     FirstHeader,
     // the 32 bytes of the first chunk's body
     Desc,
-    // the 12 bytes of a chunk header after it, or, after the data, the end; the format that was read, and the data chunk
-    Header(AudioFormat, DataChunk),
-    // the rest of a body that is passed over: the format, the data chunk, and how many bytes are to come
-    Skipping(AudioFormat, DataChunk, usize),
+    // the 12 bytes of a chunk header after it, or, after the data, the end; the format that was read, and the data chunk, once it was
+    // passed over
+    Header(AudioFormat, Option<DataChunk>),
+    // the rest of a body that is passed over: the format, the data chunk likewise, and how many bytes are to come
+    Skipping(AudioFormat, Option<DataChunk>, usize),
     // the 4 bytes of the edit count: the format, and the size field of the data chunk
     Edit(AudioFormat, u64),
     // the end, in open data: the format, and the position where the data start
     OpenData(AudioFormat, usize),
-    // the rest of closed data: the format, the size field, the position where the data start, and how many bytes are to come
-    ClosedData(AudioFormat, u64, usize, usize),
-    // nothing any more: a refusal was met, with this number
-    Refused(u32),
+    // the rest of closed data: the format, the data chunk, and how many bytes are to come
+    ClosedData(AudioFormat, DataChunk, usize),
+    // nothing any more: a refusal was met
+    Refused(Refusal),
 }
 
 // The strict reading of a file that comes in blocks. It holds the first bytes of one piece, and no payload.

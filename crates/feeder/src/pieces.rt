@@ -11,13 +11,9 @@ pub fn piece_size(phase: Phase) -> usize
 {
     match phase {
         Phase::FileHeader => FILE_HEADER,
-        Phase::FirstHeader => CHUNK_HEADER,
+        Phase::FirstHeader | Phase::Header(..) => CHUNK_HEADER,
         Phase::Desc => DESC,
-        Phase::Header(_, _) => CHUNK_HEADER,
-        Phase::Skipping(_, _, _) => 0,
-        Phase::Edit(_, _) => EDIT_COUNT,
-        Phase::OpenData(_, _) => 0,
-        Phase::ClosedData(_, _, _, _) => 0,
-        Phase::Refused(_) => 0,
+        Phase::Edit(..) => EDIT_COUNT,
+        _ => 0,
     }
 }

@@ -1,14 +1,15 @@
 -- The feeding record comes back from its numbers, and so the reading in blocks through C is the reading in blocks; and bytes that C passes over
 -- are as good as fed.
+use Rattle.std.proofs.Common.{Option, Some, None}
 use mathlib.Core.Path.{◌≡◌, refl, sym, ◌∙◌, ap}
-use mathlib.Core.Bool.{true, ◌||◌, true≢false}
+use mathlib.Core.Bool.{true, cond, ◌||◌, true≢false}
 use mathlib.Core.List.{List, [], ◌∷◌, ◌++◌}
-use Prim.Native.Nat.{ℕ, zero, suc, ◌^◌}
+use Prim.Native.Nat.{ℕ, zero, suc}
 use native.Mathlib.Omega.{arith}
 use lib.ListN.{length, take, drop, replicate}
 use lib.Seq.{take_all}
 use lib.Dec.{eqb}
-use borrow.Author.Tests.{eq-eqb, ne_eqb, lt-ltb}
+use borrow.Author.Tests.{eq-eqb, ne_eqb}
 use Rattle.answers.specs.Numbers.{bad_writer, too_long}
 use Rattle.byte_order.specs.Big.{big_at, big_bytes}
 use Rattle.format.specs.declared.AudioFormat.{AudioFormat}
@@ -18,19 +19,19 @@ use Rattle.feeder.specs.Record.{is_by_bytes, fresh, sound}
 use Rattle.feeder.specs.End.{end}
 use Rattle.feeder.specs.declared.Phase.{Phase}
 use Rattle.feeder.specs.declared.Phase.TheVariants.{FileHeader, FirstHeader, Desc, Header, Skipping, Edit, OpenData, ClosedData, Refused}
-use Rattle.feeder.specs.declared.DataChunk.TheVariants.{Ahead, Passed}
 use Rattle.feeder.specs.declared.Feeder.{Feeder}
 use Rattle.feeder.proofs.Facts.{Facts, sound-facts, sound-tests, fresh-sound}
 use Rattle.feeding.specs.Feed.{number_at, feed_bytes, feed, feed_all}
-use Rattle.feeding.specs.declared.Fed.{Fed}
+use Rattle.feeding.specs.Feed.{Fed}
 use Rattle.feeder.proofs.Facts.{Facts, sound-facts, sound-tests, fresh-sound}
 use Rattle.feeding.proofs.Soundness.{bytes-sound}
 use Rattle.feeding.proofs.Call.{feed-is}
 use Rattle.fed.proofs.Theorems.{fed-is}
-use Rattle.fed.proofs.Cut.{by-sound}
 use Rattle.fed.proofs.Passed.{passed-is-fed}
-use Rattle.numbers.specs.Words.{is_word}
-use Rattle.feeder_numbers.specs.FeederNumbers.{phase_of, feeder_numbers, feeder_of, is_feeder}
+use Rattle.format.specs.Desc.{Typed}
+use Rattle.numbers.specs.Words.{all_words}
+use Rattle.numbers.specs.FormatNumbers.{audio_numbers}
+use Rattle.feeder_numbers.specs.FeederNumbers.{phase_of, feeder_numbers, feeder_of}
 use Rattle.feeder_calls.specs.FeederCalls.{call_on, feed_on, pass_on, passable_on, feeder_after, end_on}
 use Rattle.feeder_calls.specs.FeederClaims.{feeds_on, AllBytes, FedThroughC, PassedThroughC}
 use Rattle.numbers.proofs.FormatLaws.{again, format_back, words}
@@ -57,47 +58,30 @@ module _ (h : List ℕ) (n t k : ℕ) (l : length h ≡ 32) (b : Bytes h) where
   at phase = record { phase = phase; held = h; count = n; total = t; chunks = k }
 
   -- the whole record, where its phase comes back
-  with-phase : (p q : Phase) → p ≡ q → record { phase = p; held = eights h; count = n; total = t; chunks = k } ≡ at q
-  with-phase p q e = let g = held_back h l b in λ i. record { phase = e i; held = g i; count = n; total = t; chunks = k }
+  with-phase : (p q : Phase) → p ≡ q → ◌≡◌ {A = Option Feeder} (Some (record { phase = p; held = eights h; count = n; total = t; chunks = k })) (Some (at q))
+  with-phase p q e = let g = held_back h l b in λ i. Some (record { phase = e i; held = g i; count = n; total = t; chunks = k })
 
-  at_back : (phase : Phase) → TypedPhase phase → feeder_of (feeder_numbers (at phase)) ≡ at phase
+  -- and with a format
+  with-format : (f : AudioFormat) (p : AudioFormat → Phase) → Typed f
+      → ◌≡◌ {A = Option Feeder} (cond (all_words (take 6 (drop 1 (audio_numbers f)))) (Some (record { phase = p (again f); held = eights h; count = n; total = t; chunks = k })) None) (Some (at (p f)))
+  with-format f p a = let w = words f a in rw (w.0, w.1, w.2, w.3, w.4, w.5) (with-phase (p (again f)) (p f) (ap p (format_back f a)))
+
+  at_back : (phase : Phase) → TypedPhase phase → feeder_of (feeder_numbers (at phase)) ≡ Some (at phase)
   unfolding feeder_of feeder_numbers phase_of
   at_back FileHeader p = with-phase FileHeader FileHeader refl
   at_back FirstHeader p = with-phase FirstHeader FirstHeader refl
   at_back Desc p = with-phase Desc Desc refl
-  at_back (Header f Ahead) p = with-phase (Header (again f) Ahead) (Header f Ahead) (ap (λ (x : AudioFormat). Header x Ahead) (format_back f p))
-  at_back (Header f (Passed size start)) p =
-      with-phase (Header (again f) (Passed size start)) (Header f (Passed size start)) (ap (λ (x : AudioFormat). Header x (Passed size start)) (format_back f p))
-  at_back (Skipping f Ahead m) p =
-      with-phase (Skipping (again f) Ahead m) (Skipping f Ahead m) (ap (λ (x : AudioFormat). Skipping x Ahead m) (format_back f p))
-  at_back (Skipping f (Passed size start) m) p =
-      with-phase (Skipping (again f) (Passed size start) m) (Skipping f (Passed size start) m)
-      (ap (λ (x : AudioFormat). Skipping x (Passed size start) m) (format_back f p))
-  at_back (Edit f size) p = with-phase (Edit (again f) size) (Edit f size) (ap (λ (x : AudioFormat). Edit x size) (format_back f p))
-  at_back (OpenData f start) p = with-phase (OpenData (again f) start) (OpenData f start) (ap (λ (x : AudioFormat). OpenData x start) (format_back f p))
-  at_back (ClosedData f size start m) p =
-      with-phase (ClosedData (again f) size start m) (ClosedData f size start m) (ap (λ (x : AudioFormat). ClosedData x size start m) (format_back f p))
-  at_back (Refused number) p = with-phase (Refused number) (Refused number) refl
+  at_back (Header f None) p = with-format f (λ x. Header x None) p
+  at_back (Header f (Some chunk)) p = with-format f (λ x. Header x (Some chunk)) p
+  at_back (Skipping f None m) p = with-format f (λ x. Skipping x None m) p
+  at_back (Skipping f (Some chunk) m) p = with-format f (λ x. Skipping x (Some chunk) m) p
+  at_back (Edit f size) p = with-format f (λ x. Edit x size) p
+  at_back (OpenData f start) p = with-format f (λ x. OpenData x start) p
+  at_back (ClosedData f chunk m) p = with-format f (λ x. ClosedData x chunk m) p
+  at_back (Refused reason) p = rw p (with-phase (Refused reason) (Refused reason) refl)
 
-  at-stands : (phase : Phase) → TypedPhase phase → is_feeder (feeder_numbers (at phase)) ≡ true
-  unfolding feeder_numbers is_feeder
-  at-stands FileHeader p = refl
-  at-stands FirstHeader p = refl
-  at-stands Desc p = refl
-  at-stands (Header f Ahead) p = let w = words f p in rw (w.0, w.1, w.2, w.3, w.4, w.5)
-  at-stands (Header f (Passed size start)) p = let w = words f p in rw (w.0, w.1, w.2, w.3, w.4, w.5)
-  at-stands (Skipping f Ahead m) p = let w = words f p in rw (w.0, w.1, w.2, w.3, w.4, w.5)
-  at-stands (Skipping f (Passed size start) m) p = let w = words f p in rw (w.0, w.1, w.2, w.3, w.4, w.5)
-  at-stands (Edit f size) p = let w = words f p in rw (w.0, w.1, w.2, w.3, w.4, w.5)
-  at-stands (OpenData f start) p = let w = words f p in rw (w.0, w.1, w.2, w.3, w.4, w.5)
-  at-stands (ClosedData f size start m) p = let w = words f p in rw (w.0, w.1, w.2, w.3, w.4, w.5)
-  at-stands (Refused number) p = let w : is_word number ≡ true = lt-ltb number (2 ^ 32) p in rw w
-
-pub numbers-back : (r : Feeder) → TypedFeeder r → feeder_of (feeder_numbers r) ≡ r
+pub numbers-back : (r : Feeder) → TypedFeeder r → feeder_of (feeder_numbers r) ≡ Some r
 numbers-back r t = at_back r.held r.count r.total r.chunks t.long t.bytes r.phase t.phase
-
-pub numbers-stand : (r : Feeder) → TypedFeeder r → is_feeder (feeder_numbers r) ≡ true
-numbers-stand r t = at-stands r.held r.count r.total r.chunks t.long t.bytes r.phase t.phase
 
 -- a sound record is not answered as an unsound one
 not-unsound : (n t k : ℕ) (phase : Phase) → Facts n t k phase → number_at phase ≡ bad_writer → ⊥
@@ -108,8 +92,8 @@ not-unsound n t k (Header f d) a e = omega arith
 not-unsound n t k (Skipping f d m) a e = omega arith
 not-unsound n t k (Edit f size) a e = omega arith
 not-unsound n t k (OpenData f start) a e = omega arith
-not-unsound n t k (ClosedData f size start m) a e = omega arith
-not-unsound n t k (Refused number) a e = true≢false (sym a.1 ∙ ap (λ (x : ℕ). eqb x too_long || is_by_bytes x) e)
+not-unsound n t k (ClosedData f chunk m) a e = omega arith
+not-unsound n t k (Refused reason) a e = true≢false (sym a.1 ∙ ap (λ (x : ℕ). eqb x too_long || is_by_bytes x) e)
 
 -- one call on the numbers of a record, and one on the record
 module _ (r : Feeder) (s : sound r ≡ true) (t : TypedFeeder r) where
@@ -119,11 +103,11 @@ module _ (r : Feeder) (s : sound r ≡ true) (t : TypedFeeder r) where
       let i = feed-is r block s in
       let a = bytes-sound block r (sound-facts r s) in
       let n : (feed r block).number ≡ bad_writer → ⊥ = λ e. not-unsound _ _ _ (feed_bytes r block).phase a.facts (sym (ap (λ (x : Fed). x.number) i) ∙ e) in
-      rw (numbers-stand r t, numbers-back r t, ne_eqb _ _ n)
+      rw (numbers-back r t, ne_eqb _ _ n)
 
   pub ended-on : end_on (feeder_numbers r) ≡ end r
   unfolding end_on
-  ended-on = rw (numbers-stand r t, numbers-back r t)
+  ended-on = rw (numbers-back r t)
 
 -- call after call
 all-on : (blocks : List (List ℕ)) (r : Feeder) → sound r ≡ true → TypedFeeder r → AllBytes blocks
@@ -149,7 +133,8 @@ fed-through-c held blocks l b =
 
 pub passed-through-c : PassedThroughC
 unfolding call_on passable_on
-passed-through-c held block l =
-    by-sound (pass_on held (length block) ≡ feed_on held block) (is_feeder held)
-    (λ e. rw e (passed-is-fed (feeder_of held) block (rw e at l)))
-    (λ e. rw e)
+passed-through-c held block l = by (feeder_of held) refl
+  where
+    by : (o : Option Feeder) → feeder_of held ≡ o → pass_on held (length block) ≡ feed_on held block
+    by None e = rw e
+    by (Some r) e = rw e (passed-is-fed r block (rw e at l))

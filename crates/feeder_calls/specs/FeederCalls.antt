@@ -1,15 +1,15 @@
 -- Document 02, T-01: the reading in blocks on the record that C keeps as an array.
 use Rattle.std.specs.Prelude.{◌≡◌, ℕ, cond, List, length, eqb}
+use Rattle.std.specs.Option.{option_map_or}
 use Rattle.answers.specs.Numbers.{done, bad_writer}
-use Rattle.reading.specs.declared.StrictAnswer.{StrictAnswer}
-use Rattle.reading.specs.declared.StrictAnswer.TheVariants.{Rejected}
+use Rattle.reading.specs.Shapes.{StrictAnswer, Rejected}
 use Rattle.feeder.specs.Record.{fresh}
 use Rattle.feeder.specs.End.{end}
 use Rattle.feeder.specs.declared.Feeder.{Feeder}
 use Rattle.feeding.specs.Feed.{feed}
 use Rattle.feeding.specs.Pass.{passable, pass}
-use Rattle.feeding.specs.declared.Fed.{Fed}
-use Rattle.feeder_numbers.specs.FeederNumbers.{feeder_places, feeder_numbers, feeder_of, is_feeder}
+use Rattle.feeding.specs.Feed.{Fed}
+use Rattle.feeder_numbers.specs.FeederNumbers.{feeder_places, feeder_numbers, feeder_of}
 
 -- only an array of a record's places takes a fresh one
 abbrev pub begin_number : List ℕ → ℕ
@@ -20,7 +20,7 @@ begin_record held = cond (eqb (length held) feeder_places) (feeder_numbers fresh
 
 -- a call on the record that the array stands for. An array that stands for none is unsound (BadWriter)
 unfoldable pub call_on : List ℕ → (Feeder → Fed) → Fed
-call_on ns call = cond (is_feeder ns) (call (feeder_of ns)) (record { number = bad_writer; feeder = fresh })
+call_on ns call = option_map_or call (feeder_of ns) (record { number = bad_writer; feeder = fresh })
 
 -- a block is fed
 abbrev pub feed_on : List ℕ → List ℕ → Fed
@@ -32,7 +32,7 @@ pass_on ns n = call_on ns (λ r. pass r n)
 
 -- how many may be
 unfoldable pub passable_on : List ℕ → ℕ
-passable_on ns = cond (is_feeder ns) (passable (feeder_of ns)) 0
+passable_on ns = option_map_or passable (feeder_of ns) 0
 
 -- the array after a call: the next record, or every number as it was where the record is unsound. A refusal that the bytes gave is
 -- part of the next record
@@ -46,4 +46,4 @@ pub record FeederCall (held : List ℕ) (fed : Fed) (r : ℕ) (held_after : List
 
 -- the answer of the end call
 unfoldable pub end_on : List ℕ → StrictAnswer
-end_on ns = cond (is_feeder ns) (end (feeder_of ns)) (Rejected bad_writer 0)
+end_on ns = option_map_or end (feeder_of ns) (Rejected bad_writer 0)

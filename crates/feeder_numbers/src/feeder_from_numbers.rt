@@ -1,8 +1,10 @@
 // The feeding record read from the array that a caller keeps.
-ghost use Rattle.std.specs.Prelude.{◌≡◌, true, length};
-ghost use Rattle.feeder_numbers.specs.FeederNumbers.{feeder_places, after_data, phase_of, held_in, feeder_of, is_feeder, held_feeder};
+ghost use Rattle.std.specs.Prelude.{◌≡◌, true, length, take, drop, eqb, OnSome};
+ghost use Rattle.std.specs.List.{find};
+ghost use Rattle.answers.specs.Refused.{refusal_number};
+ghost use Rattle.numbers.specs.Words.{all_words};
+ghost use Rattle.feeder_numbers.specs.FeederNumbers.{feeder_places, phase_of, held_in, feeder_of};
 
-use crate::HeldFeeder;
 use crate::phases::{
     CLOSED_DATA, DESC, EDIT, FILE_HEADER, FIRST_HEADER, HEADER, HEADER_AFTER, OPEN_DATA, REFUSED,
     SKIPPING, SKIPPING_AFTER,
@@ -10,80 +12,60 @@ use crate::phases::{
 use crate::places::{
     CHUNKS, COUNT, FEEDER, HELD, HELD_8, HELD_16, HELD_24, NUMBER, PHASE, SIZE, START, TOTAL,
 };
-use byte_order::put::put_u64;
+use answers::Refusal;
+use byte_order::put::put;
 use feeder::{DataChunk, Feeder, Phase};
-use feeding::feed::fresh;
-use format::AudioFormat;
 use numbers::format_from_numbers::{AFTER_FORMAT, FORMAT_ID, audio_of};
-use numbers::words::{WORDS, word_at, words};
+use numbers::words::words;
 
-// Whether the array stands for a record.
-fn is_feeder(numbers: &[u64]) -> bool
-    ensures { result ≡ is_feeder numbers.now }
+// The refusals that a phase may hold: those that the bytes give, and TooLong.
+const REASONS: [Refusal; 7] = [
+    Refusal::NotCaf,
+    Refusal::BadVersion,
+    Refusal::BadDesc,
+    Refusal::BadRate,
+    Refusal::BadSize,
+    Refusal::SecondData,
+    Refusal::TooLong,
+];
+
+fn reason_in(reasons: &[Refusal], number: u64) -> Option<Refusal>
+    ensures { result ≡ find (λ r. eqb (refusal_number r) number) reasons.now }
 {
-    if numbers.len() != FEEDER {
-        return false;
-    }
-    if CLOSED_DATA < numbers[PHASE] {
-        return false;
-    }
-    if !words(&numbers[FORMAT_ID..AFTER_FORMAT]) {
-        return false;
-    }
-    if numbers[PHASE] == REFUSED {
-        return numbers[NUMBER] < WORDS;
-    }
-    true
+    reasons
+        .iter()
+        .copied()
+        .find(|reason| u64::from(reason.number()) == number)
 }
 
-// A phase that holds a closed data chunk.
-fn after_data(numbers: &[u64], kind: u64, format: AudioFormat) -> Phase
-    requires { length numbers.now ≡ feeder_places }
-    ensures { result ≡ after_data numbers.now kind format }
-{
-    let size = numbers[SIZE];
-    let start = numbers[START] as usize;
-    if kind == HEADER_AFTER {
-        return Phase::Header(format, DataChunk::Passed(size, start));
-    }
-    let left = numbers[NUMBER] as usize;
-    if kind == SKIPPING_AFTER {
-        return Phase::Skipping(format, DataChunk::Passed(size, start), left);
-    }
-    Phase::ClosedData(format, size, start, left)
-}
-
-fn phase_of(numbers: &[u64]) -> Phase
-    requires { is_feeder numbers.now ≡ true }
+// The phase that the array tells, where there is one of its number.
+#[tactic(auto, using(crate::proofs::Feeders::feeder_audio), unfolding(crate::specs::FeederNumbers::phase_of))]
+fn phase_of(numbers: &[u64]) -> Option<Phase>
+    requires places { length numbers.now ≡ feeder_places }
+    requires format_fits { all_words (take 6 (drop 2 numbers.now)) ≡ true }
     ensures { result ≡ phase_of numbers.now }
 {
-    let kind = numbers[PHASE];
-    if kind == FILE_HEADER {
-        return Phase::FileHeader;
-    }
-    if kind == FIRST_HEADER {
-        return Phase::FirstHeader;
-    }
-    if kind == DESC {
-        return Phase::Desc;
-    }
-    if kind == REFUSED {
-        return Phase::Refused(word_at(numbers, NUMBER));
-    }
     let format = audio_of(numbers);
-    if kind == HEADER {
-        return Phase::Header(format, DataChunk::Ahead);
-    }
-    if kind == SKIPPING {
-        return Phase::Skipping(format, DataChunk::Ahead, numbers[NUMBER] as usize);
-    }
-    if kind == EDIT {
-        return Phase::Edit(format, numbers[SIZE]);
-    }
-    if kind == OPEN_DATA {
-        return Phase::OpenData(format, numbers[START] as usize);
-    }
-    after_data(numbers, kind, format)
+    let chunk = DataChunk {
+        size: numbers[SIZE],
+        start: numbers[START] as usize,
+    };
+    let left = numbers[NUMBER] as usize;
+    let phase = match numbers[PHASE] {
+        FILE_HEADER => Phase::FileHeader,
+        FIRST_HEADER => Phase::FirstHeader,
+        DESC => Phase::Desc,
+        HEADER => Phase::Header(format, None),
+        HEADER_AFTER => Phase::Header(format, Some(chunk)),
+        SKIPPING => Phase::Skipping(format, None, left),
+        SKIPPING_AFTER => Phase::Skipping(format, Some(chunk), left),
+        EDIT => Phase::Edit(format, numbers[SIZE]),
+        OPEN_DATA => Phase::OpenData(format, chunk.start),
+        CLOSED_DATA => Phase::ClosedData(format, chunk, left),
+        REFUSED => Phase::Refused(reason_in(&REASONS, numbers[NUMBER])?),
+        _ => return None,
+    };
+    Some(phase)
 }
 
 fn held_of(numbers: &[u64]) -> [u8; 32]
@@ -91,40 +73,27 @@ fn held_of(numbers: &[u64]) -> [u8; 32]
     ensures { result ≡ held_in numbers.now }
 {
     let mut held = [0u8; 32];
-    put_u64(&mut held, 0, numbers[HELD]);
-    put_u64(&mut held, 8, numbers[HELD_8]);
-    put_u64(&mut held, 16, numbers[HELD_16]);
-    put_u64(&mut held, 24, numbers[HELD_24]);
+    put(&mut held, 0, numbers[HELD].to_be_bytes());
+    put(&mut held, 8, numbers[HELD_8].to_be_bytes());
+    put(&mut held, 16, numbers[HELD_16].to_be_bytes());
+    put(&mut held, 24, numbers[HELD_24].to_be_bytes());
     held
 }
 
-fn feeder_of(numbers: &[u64]) -> Feeder
-    requires { is_feeder numbers.now ≡ true }
-    ensures { result ≡ feeder_of numbers.now }
+// The record that the array stands for, where it stands for one.
+#[tactic(auto, unfolding(crate::specs::FeederNumbers::feeder_of))]
+pub fn feeder_in(numbers: &[u64]) -> Option<Feeder>
+    ensures record_of { result ≡ feeder_of numbers.now }
+    ensures places { OnSome result (length numbers.now ≡ feeder_places) }
 {
-    let phase = phase_of(numbers);
-    let held = held_of(numbers);
-    Feeder {
-        phase: phase,
-        held: held,
+    if numbers.len() != FEEDER || !words(&numbers[FORMAT_ID..AFTER_FORMAT]) {
+        return None;
+    }
+    Some(Feeder {
+        phase: phase_of(numbers)?,
+        held: held_of(numbers),
         count: numbers[COUNT] as usize,
         total: numbers[TOTAL] as usize,
         chunks: numbers[CHUNKS] as usize,
-    }
-}
-
-// What the array holds.
-pub fn feeder_in(numbers: &[u64]) -> HeldFeeder
-    ensures { result ≡ held_feeder numbers.now }
-{
-    if is_feeder(numbers) {
-        return HeldFeeder {
-            stands: true,
-            feeder: feeder_of(numbers),
-        };
-    }
-    HeldFeeder {
-        stands: false,
-        feeder: fresh(),
-    }
+    })
 }

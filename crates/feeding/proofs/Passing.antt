@@ -1,4 +1,5 @@
 -- Bytes that may be passed over: feeding any so many counts them, and nothing else.
+use Rattle.std.proofs.Common.{Option}
 use mathlib.Core.Path.{◌≡◌, refl, ◌∙◌, ap}
 use mathlib.Core.Bool.{true, false}
 use mathlib.Core.List.{List, [], ◌∷◌}
@@ -30,15 +31,15 @@ may-wanted n m room (Header f d) l = (omega arith, omega arith)
 may-wanted n m room (Skipping f d left) l = (omega arith, omega arith)
 may-wanted n m room (Edit f size) l = (omega arith, omega arith)
 may-wanted n m room (OpenData f start) l = (omega arith, l)
-may-wanted n m room (ClosedData f size start left) l = (omega arith, omega arith)
-may-wanted n m room (Refused number) l = (omega arith, omega arith)
+may-wanted n m room (ClosedData f chunk left) l = (omega arith, omega arith)
+may-wanted n m room (Refused reason) l = (omega arith, omega arith)
 
 -- no bytes
 none : (r : Feeder) (bs : List ℕ) → length bs ≤ 0 → feed_bytes r bs ≡ r
 none r [] l = refl
 none r (b ∷ bs) l = absurd (let z : ⊥ = omega arith in z)
 
-skip-passed : (f : AudioFormat) (d : DataChunk) (m : ℕ) (h : List ℕ) (n t k : ℕ) (bs : List ℕ) → 1 ≤ m → length bs ≤ m → t + length bs ≤ file_max
+skip-passed : (f : AudioFormat) (d : Option DataChunk) (m : ℕ) (h : List ℕ) (n t k : ℕ) (bs : List ℕ) → 1 ≤ m → length bs ≤ m → t + length bs ≤ file_max
     → feed_bytes (from (Skipping f d m) h n t k) bs ≡ passed_as (Skipping f d m) (from (Skipping f d m) h n t k) (length bs)
 unfolding took
 skip-passed f d m h n t k [] s l g =
@@ -48,15 +49,15 @@ skip-passed f d m h n t k [] s l g =
     rw w (λ j. from (Skipping f d (p j)) h n (q j) k)
 skip-passed f d m h n t k (b ∷ bs) s l g = many-skip f d bs m h n t k b l g
 
-closed-passed : (f : AudioFormat) (size start m : ℕ) (h : List ℕ) (n t k : ℕ) (bs : List ℕ) → 1 ≤ m → length bs ≤ m → t + length bs ≤ file_max
-    → feed_bytes (from (ClosedData f size start m) h n t k) bs ≡ passed_as (ClosedData f size start m) (from (ClosedData f size start m) h n t k) (length bs)
+closed-passed : (f : AudioFormat) (c : DataChunk) (m : ℕ) (h : List ℕ) (n t k : ℕ) (bs : List ℕ) → 1 ≤ m → length bs ≤ m → t + length bs ≤ file_max
+    → feed_bytes (from (ClosedData f c m) h n t k) bs ≡ passed_as (ClosedData f c m) (from (ClosedData f c m) h n t k) (length bs)
 unfolding took
-closed-passed f size start m h n t k [] s l g =
+closed-passed f c m h n t k [] s l g =
     let w : eqb (m - 0) 0 ≡ false = ne_eqb (m - 0) 0 (λ e. let z : ⊥ = omega arith in z) in
     let p : m ≡ m - 0 = omega arith in
     let q : t ≡ t + 0 = omega arith in
-    rw w (λ j. from (ClosedData f size start (p j)) h n (q j) k)
-closed-passed f size start m h n t k (b ∷ bs) s l g = many-closed f size start bs m h n t k b l g
+    rw w (λ j. from (ClosedData f c (p j)) h n (q j) k)
+closed-passed f c m h n t k (b ∷ bs) s l g = many-closed f c bs m h n t k b l g
 
 by-phase : (phase : Phase) (h : List ℕ) (n t k : ℕ) (bs : List ℕ) → Facts n t k phase → t ≤ file_max → length bs ≤ may_pass (file_max - t) phase
     → feed_bytes (from phase h n t k) bs ≡ passed_as phase (from phase h n t k) (length bs)
@@ -68,8 +69,8 @@ by-phase (Header f d) h n t k bs a g l = none (from (Header f d) h n t k) bs l
 by-phase (Skipping f d m) h n t k bs a g l = skip-passed f d m h n t k bs a.some (omega arith) (omega arith)
 by-phase (Edit f size) h n t k bs a g l = none (from (Edit f size) h n t k) bs l
 by-phase (OpenData f start) h n t k bs a g l = many-open f start bs h n t k (omega arith)
-by-phase (ClosedData f size start m) h n t k bs a g l = closed-passed f size start m h n t k bs a.some (omega arith) (omega arith)
-by-phase (Refused number) h n t k bs a g l = none (from (Refused number) h n t k) bs l
+by-phase (ClosedData f chunk m) h n t k bs a g l = closed-passed f chunk m h n t k bs a.some (omega arith) (omega arith)
+by-phase (Refused reason) h n t k bs a g l = none (from (Refused reason) h n t k) bs l
 
 pub bytes-passed : (r : Feeder) (bs : List ℕ) → Sound r → length bs ≤ may_pass (room_for r) r.phase → feed_bytes r bs ≡ passed_as r.phase r (length bs)
 bytes-passed r bs a l = by-phase r.phase r.held r.count r.total r.chunks bs a.facts a.total l

@@ -1,4 +1,5 @@
 -- Whole chunks at the start of a block: feeding them moves the record on by their bytes and their count, and leaves the last header held.
+use Rattle.std.proofs.Common.{Option}
 use mathlib.Core.Path.{◌≡◌, refl, sym, ◌∙◌, ap}
 use mathlib.Core.Bool.{Bool, true, false, true≢false}
 use mathlib.Core.List.{List, [], ◌∷◌, ◌++◌, foldl-append}
@@ -10,9 +11,8 @@ use lib.Seq.{take-add, drop_at, length-take-le}
 use lib.Dec.{ltb, leb, eqb}
 use borrow.Author.Tests.{ltb-false, ne_eqb, eqb-true, eqb-false}
 use Rattle.answers.specs.Numbers.{file_max}
-use Rattle.byte_order.specs.Splice.{splice, store_first}
+use Rattle.byte_order.specs.Splice.{splice}
 use Rattle.byte_order.proofs.Laws.{length-splice}
-use Rattle.byte_order.proofs.Budget.{whole-done}
 use Rattle.format.specs.declared.AudioFormat.{AudioFormat}
 use Rattle.reading.specs.Types.{'desc', 'data', negative}
 use Rattle.reading.specs.Step.{left, stands_at, size_at}
@@ -48,7 +48,7 @@ fits s p =
     (λ e. either P (ltb (left s p - 24) (size_at s p)) (λ _. no)
     (λ g _. let x = ltb-false (left s p) 24 a in let y = ltb-false (left s p - 24) (size_at s p) g in record { no-desc = b; no-data = c; few = e; is = refl; room = omega arith })))))
 
-module _ (f : AudioFormat) (d : DataChunk) where
+module _ (f : AudioFormat) (d : Option DataChunk) where
   skip-some : (m : ℕ) → 0 < m → skipping f d m ≡ Skipping f d m
   skip-some m l = let w : eqb m 0 ≡ false = ne_eqb m 0 (λ e. let z : ⊥ = omega arith in z) in rw w
 
@@ -173,7 +173,7 @@ module _ (s : List ℕ) where
       (length-take-le 12 (drop (chunk_at s n) s) (rw length-drop (omega (arith, last_within n (whole-fewer (suc n) w)))))
       (length-take-le 12 (drop (chunk_at s (suc n)) s) (rw length-drop (omega (arith, last_within (suc n) w))))
 
-  chunks-fed : (f : AudioFormat) (d : DataChunk) (h : List ℕ) (t k n : ℕ) → length h ≡ 32 → t + length s ≤ file_max → Whole s n
+  chunks-fed : (f : AudioFormat) (d : Option DataChunk) (h : List ℕ) (t k n : ℕ) → length h ≡ 32 → t + length s ≤ file_max → Whole s n
       → feed_bytes (from (Header f d) h 0 t k) (take (chunk_at s n) s) ≡ from (Header f d) (held_after s h n) 0 (t + chunk_at s n) (k + n)
   chunks-fed f d h t k zero room g w = let p : t ≡ t + 0 = omega arith in let q : k ≡ k + 0 = omega arith in λ j. from (Header f d) h 0 (p j) (q j)
   chunks-fed f d h t k (suc n) room g w =
@@ -197,17 +197,26 @@ module _ (s : List ℕ) where
   phase-fed (Skipping f d m) e = absurd (true≢false (sym e))
   phase-fed (Edit f size) e = absurd (true≢false (sym e))
   phase-fed (OpenData f start) e = absurd (true≢false (sym e))
-  phase-fed (ClosedData f size start m) e = absurd (true≢false (sym e))
-  phase-fed (Refused number) e = absurd (true≢false (sym e))
+  phase-fed (ClosedData f chunk m) e = absurd (true≢false (sym e))
+  phase-fed (Refused reason) e = absurd (true≢false (sym e))
+
+  -- some of them, one after the other
+  pub record Walking (w : Walk) : Type 0 where
+    pub to : w.to ≡ chunk_at s w.chunks
+    pub last : w.last ≡ chunk_at s (w.chunks - 1)
+    pub whole : Whole s w.chunks
+
+  pub walking-none : Walking (record { to = 0; last = 0; chunks = 0 })
+  walking-none = record { to = refl; last = refl; whole = λ m l. absurd (let z : ⊥ = omega arith in z) }
+
+  pub walking-within : (w : Walk) → Walking w → w.to ≤ length s
+  walking-within w a = let l = lies w.chunks a.whole in omega (arith, a.to, l.within)
 
   -- one more
-  pub record Next (to n k : ℕ) : Type 0 where
-    pub at : to + n ≡ chunk_at s (k + 1)
-    pub last : to ≡ chunk_at s (k + 1 - 1)
-    pub whole : Whole s (k + 1)
-    pub within : to + n ≤ length s
-    pub ahead : 0 < n
-    pub apart : 12 * (k + 1) ≤ to + n
+  pub record Next (w : Walk) (n : ℕ) : Type 0 where
+    pub on : Walking (record { to = w.to + n; last = w.to; chunks = w.chunks + 1 })
+    pub within : w.to + n ≤ length s
+    pub apart : 12 * (w.chunks + 1) ≤ w.to + n
 
   whole-more : (k : ℕ) → Whole s k → 0 < whole_at s (chunk_at s k) → Whole s (k + 1)
   whole-more k w z m l = by (eqb m k) refl
@@ -216,20 +225,17 @@ module _ (s : List ℕ) where
       by true x = let e : m ≡ k = eqb-true m k x in rw e z
       by false x = let e = eqb-false m k x in w m (omega arith)
 
-  pub next : (to n k : ℕ) → to ≡ chunk_at s k → Whole s k → n ≡ whole_at s to → (n ≡ 0 → ⊥) → Next to n k
-  next to n k e w i z =
-      let g : n ≡ whole_at s (chunk_at s k) = i ∙ ap (whole_at s) e in
-      let y : 0 < whole_at s (chunk_at s k) = omega (arith, g) in
+  pub next : (w : Walk) (n : ℕ) → Walking w → (n ≡ whole_at s w.to) × (0 < n) → Next w n
+  next w n a i =
+      let k = w.chunks in
+      let g : n ≡ whole_at s (chunk_at s k) = i.0 ∙ ap (whole_at s) a.to in
       let q : suc k ≡ k + 1 = omega arith in
-      let at : to + n ≡ chunk_at s (k + 1) = (λ j. e j + g j) ∙ ap (chunk_at s) q in
-      let v = whole-more k w y in
+      let at : w.to + n ≡ chunk_at s (k + 1) = (λ j. a.to j + g j) ∙ ap (chunk_at s) q in
+      let v = whole-more k a.whole (omega (arith, g, i.1)) in
       let l = lies (k + 1) v in
       record {
-        at = at;
-        last = e ∙ ap (chunk_at s) (let x : k ≡ k + 1 - 1 = omega arith in x);
-        whole = v;
+        on = record { to = at; last = a.to ∙ ap (chunk_at s) (let x : k ≡ k + 1 - 1 = omega arith in x); whole = v };
         within = omega (arith, at, l.within);
-        ahead = omega arith;
         apart = omega (arith, at, l.apart);
       }
 
@@ -252,26 +258,19 @@ module _ (s : List ℕ) where
       let m = last-lies w.chunks z a.whole in
       (omega (arith, m, a.last), omega (arith, l.within, a.to), omega (arith, l.apart, a.to))
 
-  -- a header stored in the room of a piece
-  pub header-stored : (h : List ℕ) (p : ℕ) → length h ≡ 32 → p + 12 ≤ length s → store_first 12 (take (p + 12 - p) (drop p s)) 0 h ≡ splice h 0 (take 12 (drop p s))
-  header-stored h p room l =
-      let z : p + 12 - p ≡ 12 = omega arith in
-      ap (λ (m : ℕ). store_first 12 (take m (drop p s)) 0 h) z
-      ∙ whole-done 12 0 (take 12 (drop p s)) h (length-take-le 12 (drop p s) (rw length-drop (omega arith))) (omega arith)
-
-  pub past-none : (r : Feeder) → Past r s r
-  past-none r =
-      let z : r.total - r.total ≡ 0 = omega arith in
-      record { ahead = omega arith; within = omega arith; same = ap (λ (n : ℕ). feed_bytes r (take n s)) z }
-
-  pub past-some : (r : Feeder) (w : Walk) (held : List ℕ) → Walked s w → is_header r.phase ≡ true → r.count ≡ 0 → (w.chunks ≡ 0 → ⊥) → length r.held ≡ 32
-      → r.total + length s ≤ file_max → held ≡ splice r.held 0 (take 12 (drop w.last s))
-      → Past r s (from r.phase held 0 (r.total + w.to) (r.chunks + w.chunks))
-  past-some r w held a e c z room g i =
+  pub past-some : (r : Feeder) (w : Walk) (hs : List ℕ) → Walked s w → is_header r.phase ≡ true → r.count ≡ 0 → (w.chunks ≡ 0 → ⊥) → length r.held ≡ 32
+      → r.total + length s ≤ file_max → hs ≡ take (w.last + 12 - w.last) (drop w.last s)
+      → Past r s (from r.phase (hs ++ drop 12 r.held) r.count (r.total + w.to) (r.chunks + w.chunks))
+  past-some r w hs a e c z room g i =
       let l = ends-before w.chunks z a.whole in
       let y : r.total + w.to - r.total ≡ chunk_at s w.chunks = omega (arith, a.to) in
-      let x : held_after s r.held w.chunks ≡ held =
-      held-last r.held w.chunks z ∙ ap (λ (m : ℕ). splice r.held 0 (take 12 (drop m s))) (sym a.last) ∙ sym i in
+      let n : w.last + 12 - w.last ≡ 12 = omega arith in
+      let h : take 12 (drop (chunk_at s (w.chunks - 1)) s) ≡ hs = sym (i ∙ rw (n, a.last)) in
+      let m = last-lies w.chunks z a.whole in
+      let k : length hs ≡ 12 = ap length (sym h) ∙ length-take-le 12 (drop (chunk_at s (w.chunks - 1)) s) (rw length-drop (omega (arith, m))) in
+      let long : 0 + length hs ≡ 12 = omega (arith, k) in
+      let x : held_after s r.held w.chunks ≡ hs ++ drop 12 r.held =
+      held-last r.held w.chunks z ∙ ap (λ (m : List ℕ). splice r.held 0 m) h ∙ (λ j. hs ++ drop (long j) r.held) in
       record {
         ahead = omega arith;
         within = omega (arith, l, y);
@@ -279,5 +278,5 @@ module _ (s : List ℕ) where
             ap (λ (n : ℕ). feed_bytes r (take n s)) y
             ∙ (λ j. feed_bytes (from r.phase r.held (c j) r.total r.chunks) (take (chunk_at s w.chunks) s))
             ∙ phase-fed r.phase e r.held r.total r.chunks w.chunks room g a.whole
-            ∙ (λ j. from r.phase (x j) 0 (r.total + sym a.to j) (r.chunks + w.chunks));
+            ∙ (λ j. from r.phase (x j) (sym c j) (r.total + sym a.to j) (r.chunks + w.chunks));
       }

@@ -40,8 +40,8 @@ is_header (Header f d) = true
 is_header (Skipping f d left) = false
 is_header (Edit f size) = false
 is_header (OpenData f start) = false
-is_header (ClosedData f size start left) = false
-is_header (Refused number) = false
+is_header (ClosedData f c left) = false
+is_header (Refused reason) = false
 
 -- a record after some of the next bytes, but not all of them; its total tells after how many
 pub record Past (r : Feeder) (s : List ℕ) (next : Feeder) : Type 0 where

@@ -6,7 +6,7 @@ use Rattle.feeder.specs.declared.Phase.TheVariants.{FileHeader, FirstHeader, Des
 use Rattle.feeder.specs.declared.Feeder.{Feeder}
 use Rattle.feeding.specs.Feed.{feed}
 use Rattle.feeding.specs.Turns.{room_for}
-use Rattle.feeding.specs.declared.Fed.{Fed}
+use Rattle.feeding.specs.Feed.{Fed}
 
 -- with room for so many bytes in a file: the rest of a skipped body and of closed data, and of open data all. After a refusal nothing is
 -- read any more, and so nothing passed over
@@ -18,8 +18,8 @@ may_pass room (Header f d) = 0
 may_pass room (Skipping f d left) = min left room
 may_pass room (Edit f size) = 0
 may_pass room (OpenData f start) = room
-may_pass room (ClosedData f size start left) = min left room
-may_pass room (Refused number) = 0
+may_pass room (ClosedData f c left) = min left room
+may_pass room (Refused reason) = 0
 
 -- how many of the next bytes may be passed over; of an unsound record none
 unfoldable pub passable : Feeder → ℕ

@@ -12,7 +12,7 @@ use Rattle.byte_order.proofs.RateRoundTrip.{rate-back, bits_fit}
 use Rattle.format.specs.Desc.{desc_size, desc_body, format_at, Typed, RateIsNumber}
 use Rattle.format.specs.FormatAnswers.{desc_read}
 use Rattle.format.specs.declared.AudioFormat.{AudioFormat}
-use Rattle.format.specs.declared.DescRead.TheVariants.{Format}
+use Rattle.std.proofs.Common.{Some}
 
 pub desc-length : (f : AudioFormat) → length (desc_body f) ≡ desc_size
 unfolding desc_body
@@ -39,7 +39,7 @@ module _ (f : AudioFormat) (rest : List ℕ) (typed : Typed f) where
   number-there number = ap not_aNumber (ap rate_of rate-there ∙ rate-back f.sample_rate typed.rate) ∙ is_false (not_aNumber f.sample_rate) number
 
 -- `read_desc` takes back what `desc_bytes` gives
-pub format-read-back : (f : AudioFormat) → Typed f → RateIsNumber f → desc_read (desc_body f) ≡ Format f
+pub format-read-back : (f : AudioFormat) → Typed f → RateIsNumber f → desc_read (desc_body f) ≡ Some f
 format-read-back f typed number =
     ap desc_read (sym (append-nil (desc_body f)))
     ∙ rw (number-there f [] typed number, format-there f [] typed)

@@ -1,12 +1,12 @@
 -- The tests of the definitions, as facts of the rows, and the other way round.
+use Rattle.format.specs.declared.AudioFormat.{AudioFormat}
+use Rattle.std.proofs.Common.{Option, Some, None}
 use mathlib.Core.Path.{◌≡◌, refl, sym, ◌∙◌, ap}
 use mathlib.Core.Bool.{Bool, true, false, ◌||◌, true≢false}
 use Prim.Native.Nat.{ℕ}
 use lib.Dec.{ltb}
 use borrow.Author.Tests.{ltb-true, ltb-false, lt-ltb, le-ltb}
 use Rattle.answers.specs.Numbers.{file_max}
-use Rattle.format.specs.declared.MaybeFormat.{MaybeFormat}
-use Rattle.format.specs.declared.MaybeFormat.TheVariants.{Absent, Present}
 use Rattle.refusals.specs.Numbers.{exceeds, is_absent}
 use Rattle.writer.proofs.Tests.{neither}
 use Rattle.given.specs.Rows
@@ -35,13 +35,13 @@ longer len room (TooLong.for-a-file h) = rw (lt-ltb file_max len h) (or-true (lt
 pub within : (len room : ℕ) → Fits len room → exceeds len room ≡ false
 within len room f = rw (le-ltb room len f.in_buffer, le-ltb file_max len f.in-file)
 
-pub absent : (m : MaybeFormat) → is_absent m ≡ true → m ≡ Absent
-absent Absent e = refl
-absent (Present f) e = absurd (true≢false (sym e))
+pub absent : (m : Option AudioFormat) → is_absent m ≡ true → m ≡ None
+absent None e = refl
+absent (Some f) e = absurd (true≢false (sym e))
 
-pub present : (m : MaybeFormat) → is_absent m ≡ false → ¬ (m ≡ Absent)
+pub present : (m : Option AudioFormat) → is_absent m ≡ false → ¬ (m ≡ None)
 present m e p = true≢false (sym (ap is_absent p) ∙ e)
 
-pub is-present : (m : MaybeFormat) → ¬ (m ≡ Absent) → is_absent m ≡ false
-is-present Absent h = absurd (h refl)
-is-present (Present f) h = refl
+pub is-present : (m : Option AudioFormat) → ¬ (m ≡ None) → is_absent m ≡ false
+is-present None h = absurd (h refl)
+is-present (Some f) h = refl

@@ -9,12 +9,11 @@ use Rattle.answers.specs.Numbers.{done, bad_size, tail_after_data}
 use Rattle.byte_order.specs.Big.{big_at}
 use Rattle.reading.specs.Plain.{plain}
 use Rattle.reading.specs.declared.CAFFileInfo.{CAFFileInfo}
-use Rattle.reading.specs.declared.PlainAnswer.{PlainAnswer}
-use Rattle.reading.specs.declared.PlainAnswer.TheVariants.{Found, NotRead}
+use Rattle.reading.specs.Shapes.{PlainAnswer, Found, NotRead}
 use Rattle.reading.proofs.Choice.{either}
 use Rattle.refusals.specs.Numbers.{exceeds}
 use Rattle.writer.specs.Resume.{after_header, tail_number, resumed_as, resumed}
-use Rattle.writer.specs.declared.Resumed.{Resumed}
+use Rattle.writer.specs.Shapes.{Resumed}
 use Rattle.given.specs.Rows
 use Rattle.given.specs.Rows.{Fits, ResumeGives}
 use Rattle.given.proofs.Facts.{too_long, fits, longer, within}

@@ -2,15 +2,17 @@
 use mathlib.Core.Path.{◌≡◌, refl, sym, ◌∙◌, ap, subst}
 use mathlib.Core.Bool.{true, false}
 use mathlib.Core.List.{List, [], ◌∷◌, ◌++◌, append-nil}
-use Prim.Native.Nat.{ℕ, ◌+◌, ◌≤◌, ◌<◌}
+use Prim.Native.Nat.{ℕ, ◌+◌, ◌≤◌}
 use native.Mathlib.Omega.{arith}
 use lib.ListN.{length, length-append}
-use borrow.Author.Tests.{le-leb, lt-leb}
+use borrow.Author.Tests.{le-leb}
 use Rattle.byte_order.specs.Big.{big_bytes}
 use Rattle.byte_order.specs.Rate.{not_aNumber}
 use Rattle.byte_order.specs.Splice.{splice, store_first}
-use Rattle.byte_order.proofs.Laws.{length-splice, splice-nil, more}
+use Rattle.byte_order.proofs.Laws.{length-splice, more}
 use Rattle.byte_order.proofs.Budget.{whole-done}
+use Rattle.byte_order.proofs.Bytes.{be-bytes}
+use Rattle.std.specs.Int.{bytes_high_first}
 use Rattle.format.specs.Desc.{desc_size, desc_body}
 use Rattle.format.specs.declared.AudioFormat.{AudioFormat}
 use Rattle.format.proofs.RoundTrip.{desc-length}
@@ -37,18 +39,18 @@ module _ (out : List ℕ) (at : ℕ) where
       more out at k cs bs p (q ∙ whole-done n (at + k) bs o₁ lb (omega arith)) lc (omega arith)
 
   -- a chunk's header
-  pub chunk-header-put : (kind : List ℕ) (size : ℕ) {o₁ o₂ bytes : List ℕ} → length kind ≡ type_size → at + chunk_header_size ≤ length out
-      → o₁ ≡ store_first type_size kind at out → bytes ≡ big_bytes 8 size → o₂ ≡ store_first 8 bytes (at + type_size) o₁ → o₂ ≡ splice out at (chunk_header kind size)
-  chunk-header-put kind size {o₁} l h p b q =
-      then-stored type_size 8 kind (big_bytes 8 size) l refl (omega arith) (stored type_size kind l (omega arith) p)
-      (q ∙ ap (λ (x : List ℕ). store_first 8 x (at + type_size) o₁) b)
+  pub chunk_header_put : (kind : List ℕ) (size : ℕ) {o₁ o₂ bytes : List ℕ} → length kind ≡ type_size → at + chunk_header_size ≤ length out
+      → o₁ ≡ store_first type_size kind at out → bytes ≡ bytes_high_first 8 size → o₂ ≡ store_first 8 bytes (at + type_size) o₁ → o₂ ≡ splice out at (chunk_header kind size)
+  chunk_header_put kind size {o₁} l h p b q =
+      let r = q ∙ ap (λ (bs : List ℕ). store_first 8 bs (at + type_size) o₁) (b ∙ be-bytes 8 size) in
+      then-stored type_size 8 kind (big_bytes 8 size) l refl (omega arith) (stored type_size kind l (omega arith) p) r
 
   -- the open data chunk
-  pub open-put : {o₁ o₂ bytes : List ℕ} → at + length open_head ≤ length out → o₁ ≡ splice out at (chunk_header 'data' open_size)
-      → bytes ≡ big_bytes edit_size 0 → o₂ ≡ store_first edit_size bytes (at + chunk_header_size) o₁ → o₂ ≡ splice out at open_head
-  open-put {o₁} h p b q =
-      then-stored chunk_header_size edit_size (chunk_header 'data' open_size) (big_bytes edit_size 0) refl refl (omega arith) p
-      (q ∙ ap (λ (x : List ℕ). store_first edit_size x (at + chunk_header_size) o₁) b)
+  pub open_put : {o₁ o₂ bytes : List ℕ} → at + length open_head ≤ length out → o₁ ≡ splice out at (chunk_header 'data' open_size)
+      → bytes ≡ bytes_high_first edit_size 0 → o₂ ≡ store_first edit_size bytes (at + chunk_header_size) o₁ → o₂ ≡ splice out at open_head
+  open_put {o₁} h p b q =
+      let r = q ∙ ap (λ (bs : List ℕ). store_first edit_size bs (at + chunk_header_size) o₁) (b ∙ be-bytes edit_size 0) in
+      then-stored chunk_header_size edit_size (chunk_header 'data' open_size) (big_bytes edit_size 0) refl refl (omega arith) p r
 
 whole_top : (f : AudioFormat) → file_header ++ chunk_header 'desc' desc_size ++ desc_body f ≡ before_layout f
 whole_top f = rw desc-length
@@ -125,24 +127,9 @@ module _ (f : AudioFormat) (layout : ChannelLayout) (ls : List ℕ) (few : lengt
       let a₃ : o₃ ≡ splice o₂ (0 + at) open_head = p₃ ∙ ap (λ (k : ℕ). splice o₂ k open_head) (let z : at ≡ 0 + at = omega arith in z) in
       more out 0 at (top ++ o) open_head a₂ a₃ j (omega arith)
 
--- whether there is a header to put
-module _ (room : ℕ) (f : AudioFormat) (ls : List ℕ) where
-  pub no_room : room < longest_header → header_fits room f ls ≡ false
-  no_room h = rw (lt-leb longest_header room h)
+-- the header that is put
+pub fits : (room : ℕ) (f : AudioFormat) (ls : List ℕ) → longest_header ≤ room → length ls ≤ label_places → not_aNumber f.sample_rate ≡ false → header_fits room f ls ≡ true
+fits room f ls r few h = rw (le-leb longest_header room r, le-leb (length ls) label_places few, h)
 
-  pub too_many : longest_header ≤ room → label_places < length ls → header_fits room f ls ≡ false
-  too_many r h = rw (le-leb longest_header room r, lt-leb (length ls) label_places h)
-
-  module _ (r : longest_header ≤ room) (few : length ls ≤ label_places) where
-    pub no-rate : not_aNumber f.sample_rate ≡ true → header_fits room f ls ≡ false
-    no-rate h = rw (le-leb longest_header room r, le-leb (length ls) label_places few, h)
-
-    pub fits : not_aNumber f.sample_rate ≡ false → header_fits room f ls ≡ true
-    fits h = rw (le-leb longest_header room r, le-leb (length ls) label_places few, h)
-
-pub none-put : (out : List ℕ) (f : AudioFormat) (layout : ChannelLayout) (ls : List ℕ) → header_fits (length out) f ls ≡ false
-    → (0 ≡ length (header_in (length out) f layout ls)) × (out ≡ splice out 0 (header_in (length out) f layout ls))
-none-put out f layout ls e = rw e (refl, sym (splice-nil out 0))
-
-pub header-in : (room : ℕ) (f : AudioFormat) (layout : ChannelLayout) (ls : List ℕ) → header_fits room f ls ≡ true → header_in room f layout ls ≡ header_bytes f layout ls
-header-in room f layout ls e = rw e
+pub header-in : (room : ℕ) (f : AudioFormat) (at : ChannelLayout) (ls : List ℕ) → header_fits room f ls ≡ true → header_in room f at ls ≡ header_bytes f at ls
+header-in room f at ls e = rw e

@@ -8,7 +8,7 @@ use Rattle.layout.specs.declared.ChannelLayout.TheVariants.{Described}
 use Rattle.reading.specs.Types.{edit_size, negative}
 use Rattle.reading.specs.Grammar.{bytes_of, values_of, chunks_of}
 use Rattle.reading.specs.Strict.{strict}
-use Rattle.reading.specs.declared.StrictAnswer.TheVariants.{Accepted}
+use Rattle.reading.specs.Shapes.{Accepted}
 use Rattle.header_bytes.specs.Made.{made, header_bytes, start_of}
 
 -- it is a CAF file within document 01's limits, open or closed, and the strict reading accepts it. How many labels there are matters only

@@ -9,7 +9,7 @@ use Rattle.reading.specs.Types.{edit_size, negative, size_to_data}
 use Rattle.reading.specs.Grammar.{bytes_of}
 use Rattle.reading.specs.Strict.{strict}
 use Rattle.reading.specs.declared.StrictInfo.{StrictInfo}
-use Rattle.reading.specs.declared.StrictAnswer.TheVariants.{Accepted}
+use Rattle.reading.specs.Shapes.{Accepted}
 use Rattle.header_bytes.specs.Made.{made, start_of}
 
 module _ (is_open : Bool) (f : AudioFormat) (layout : ChannelLayout) (ls audio : List ℕ) where

@@ -11,8 +11,8 @@ ghost use Rattle.header_bytes.specs.Made.{layout_chunks};
 ghost use Rattle.header_bytes.specs.Put.{before_layout, layout_place, open_head, longest_header, header_in};
 
 use crate::size::{DATA_HEAD, LAYOUT, LONGEST_HEADER};
-use byte_order::bytes::{u32_bytes, u64_bytes};
 use byte_order::float::is_not_a_number;
+use byte_order::put::put;
 use byte_order::store::store;
 use format::AudioFormat;
 use format::body::desc_bytes;
@@ -20,16 +20,16 @@ use layout::ChannelLayout;
 use layout::chan::{CHAN_HEAD, DESCRIPTION, put_chan};
 use layout::setting::LABEL_PLACES;
 use layout::tag::USE_CHANNEL_DESCRIPTIONS;
-use reading::sizes::{CHUNK_HEADER, DESC, EDIT_COUNT, FILE_HEADER, OPEN, TYPE, VERSION};
+use reading::sizes::{CHUNK_HEADER, DESC, FILE_HEADER, OPEN, TYPE, VERSION};
 
 // A chunk's type, and the size of its body.
+#[tactic(auto, using(crate::proofs::Parts::chunk_header_put))]
 fn put_chunk_header(out: &mut [u8], at: usize, kind: &[u8], size: u64)
     requires { (at + chunk_header_size ≤ length out.old) × (length kind.now ≡ type_size) }
     ensures { out.new ≡ splice out.old at (chunk_header kind.now size) }
 {
     store(out, at, kind, TYPE);
-    let bytes = u64_bytes(size);
-    store(out, at + TYPE, &bytes, 8);
+    put(out, at + TYPE, size.to_be_bytes());
 }
 
 // The file header, and the description with its format.
@@ -38,12 +38,11 @@ fn put_description(out: &mut [u8], format: AudioFormat)
     ensures { out.new ≡ splice out.old 0 (before_layout format) }
 {
     store(out, 0, b"caff", TYPE);
-    let version = VERSION;
-    store(out, TYPE, &version, 4);
+    store(out, TYPE, &VERSION, 4);
     put_chunk_header(out, FILE_HEADER, b"desc", DESC as u64);
-    let desc = desc_bytes(format);
-    let body = desc.bytes;
-    store(out, FILE_HEADER + CHUNK_HEADER, &body, DESC);
+    // the rate is a number
+    let desc = desc_bytes(format).unwrap();
+    store(out, FILE_HEADER + CHUNK_HEADER, &desc, DESC);
 }
 
 // Gives the position after the chunk.
@@ -70,13 +69,13 @@ fn put_layout(out: &mut [u8], layout: ChannelLayout, labels: &[u32]) -> usize
 }
 
 // The data chunk's header, whose size -1 says that the file is open, and the edit count 0.
+#[tactic(auto, using(crate::proofs::Parts::open_put))]
 fn put_data_head(out: &mut [u8], at: usize)
     requires { at + length open_head ≤ length out.old }
     ensures { out.new ≡ splice out.old at open_head }
 {
     put_chunk_header(out, at, b"data", OPEN);
-    let edits = u32_bytes(0);
-    store(out, at + CHUNK_HEADER, &edits, EDIT_COUNT);
+    put(out, at + CHUNK_HEADER, 0u32.to_be_bytes());
 }
 
 // Gives the header's length: 0, and nothing is put, where the slice has not room for every header, where there are more labels than a
@@ -89,13 +88,10 @@ pub fn put_header(
 ) -> usize
     ensures { (result ≡ length (header_in (length out.old) format layout labels.now)) × (out.new ≡ splice out.old 0 (header_in (length out.old) format layout labels.now)) }
 {
-    if out.len() < LONGEST_HEADER {
-        return 0;
-    }
-    if LABEL_PLACES < labels.len() {
-        return 0;
-    }
-    if is_not_a_number(format.sample_rate) {
+    if out.len() < LONGEST_HEADER
+        || LABEL_PLACES < labels.len()
+        || is_not_a_number(format.sample_rate)
+    {
         return 0;
     }
     put_description(out, format);
@@ -114,16 +110,12 @@ pub fn put_header_of(
 ) -> usize
     ensures { (result ≡ length (header_in (length out.old) format layout (take count labels.now))) × (out.new ≡ splice out.old 0 (header_in (length out.old) format layout (take count labels.now))) }
 {
-    if labels.len() < count {
-        return put_header(out, format, layout, labels);
-    }
-    put_header(out, format, layout, &labels[..count])
+    put_header(out, format, layout, &labels[..count.min(labels.len())])
 }
 
 // The first n stores of -1 into a size field. All eight are made, whatever the field holds.
 pub fn put_open_size(buf: &mut [u8], at: usize, n: usize) -> usize
     ensures { (result ≡ store_count n 8 at (length buf.old)) × (buf.new ≡ store_first n (big_bytes 8 open_size) at buf.old) }
 {
-    let open = u64_bytes(OPEN);
-    store(buf, at, &open, n)
+    store(buf, at, &OPEN.to_be_bytes(), n)
 }

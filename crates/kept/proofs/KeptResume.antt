@@ -1,4 +1,5 @@
 -- A fresh record is sound, and so is what resume gives.
+use Rattle.std.proofs.Common.{Option, Some, None}
 use mathlib.Core.Path.{◌≡◌, refl, sym}
 use mathlib.Core.Bool.{true}
 use mathlib.Core.List.{List}
@@ -9,15 +10,13 @@ use lib.ListN.{length, take}
 use lib.Seq.{length-take-le}
 use borrow.Author.Tests.{ltb-false}
 use Rattle.answers.specs.Numbers.{done, file_max}
+use Rattle.format.specs.declared.AudioFormat.{AudioFormat}
 use Rattle.format.specs.Flags.{same_order, endianness_for}
-use Rattle.format.specs.declared.MaybeFormat.{MaybeFormat}
-use Rattle.format.specs.declared.MaybeFormat.TheVariants.{Absent, Present}
 use Rattle.format.specs.declared.Endianness.{Endianness}
 use Rattle.format.specs.declared.Endianness.TheVariants.{BigEndian, LittleEndian}
 use Rattle.reading.specs.Plain.{plain}
 use Rattle.reading.specs.declared.CAFFileInfo.{CAFFileInfo}
-use Rattle.reading.specs.declared.PlainAnswer.{PlainAnswer}
-use Rattle.reading.specs.declared.PlainAnswer.TheVariants.{Found, NotRead}
+use Rattle.reading.specs.Shapes.{PlainAnswer, Found, NotRead}
 use Rattle.reading.proofs.Choice.{either}
 use Rattle.reading.proofs.Found.{Number, Good, GoodAnswer, plain-good}
 use Rattle.refusals.specs.Numbers.{exceeds}
@@ -25,7 +24,7 @@ use Rattle.refusals.specs.Sound.{rate_sound}
 use Rattle.writer.specs.Record.{fresh}
 use Rattle.writer.specs.Sound.{places_sound, format_sound, layout_sound, sound}
 use Rattle.writer.specs.Resume.{reopened, tail_number, resumed_as, resumed}
-use Rattle.writer.specs.declared.Resumed.{Resumed}
+use Rattle.writer.specs.Shapes.{Resumed}
 use Rattle.writer.proofs.Tests.{both, neither}
 use Rattle.writer.proofs.Facts.{is-sound, is-headed}
 
@@ -37,9 +36,9 @@ same : (e : Endianness) → same_order e e ≡ true
 same BigEndian = refl
 same LittleEndian = refl
 
-rate-good : (f : MaybeFormat) → Number f → rate_sound f ≡ true
-rate-good Absent m = refl
-rate-good (Present f) m = rw m
+rate-good : (f : Option AudioFormat) → Number f → rate_sound f ≡ true
+rate-good None m = refl
+rate-good (Some f) m = rw m
 
 reopened-sound : (info : CAFFileInfo) (len room : ℕ) → len ≤ room → len ≤ file_max → Good len info → sound (reopened info len) room ≡ true
 unfolding format_sound layout_sound

@@ -4,7 +4,6 @@ ghost use Rattle.byte_order.specs.Splice.{splice};
 ghost use Rattle.layout.specs.Chan.{chan_head, description, descriptions, chan_fits, chan_put};
 
 use crate::setting::LABEL_PLACES;
-use byte_order::bytes::u32_bytes;
 use byte_order::store::store;
 
 // The bytes before the descriptions, and of one description.
@@ -16,8 +15,8 @@ pub const DESCRIPTION: usize = 20;
 fn head(tag: u32, count: u32) -> [u8; 12]
     ensures { result ≡ chan_head tag count }
 {
-    let t = u32_bytes(tag);
-    let n = u32_bytes(count);
+    let t = tag.to_be_bytes();
+    let n = count.to_be_bytes();
     [t[0], t[1], t[2], t[3], 0, 0, 0, 0, n[0], n[1], n[2], n[3]]
 }
 
@@ -25,7 +24,7 @@ fn head(tag: u32, count: u32) -> [u8; 12]
 fn one(label: u32) -> [u8; 20]
     ensures { result ≡ description label }
 {
-    let l = u32_bytes(label);
+    let l = label.to_be_bytes();
     [
         l[0], l[1], l[2], l[3], 0, 0, 0, 0, 0, 0, 0, 0, 0, 0, 0, 0, 0, 0, 0, 0,
     ]
@@ -35,11 +34,8 @@ fn put_descriptions(buf: &mut [u8], at: usize, labels: &[u32])
     requires { at + 20 * length labels.now ≤ length buf.old }
     ensures { buf.new ≡ splice buf.old at (descriptions labels.now) }
 {
-    let mut i: usize = 0;
-    while i < labels.len() {
-        let bytes = one(labels[i]);
-        store(buf, at + i * DESCRIPTION, &bytes, DESCRIPTION);
-        i += 1;
+    for (i, label) in labels.iter().enumerate() {
+        store(buf, at + i * DESCRIPTION, &one(*label), DESCRIPTION);
     }
 }
 
@@ -57,8 +53,7 @@ pub fn put_chan(buf: &mut [u8], at: usize, tag: u32, labels: &[u32]) -> bool
     if buf.len() - size < at {
         return false;
     }
-    let bytes = head(tag, labels.len() as u32);
-    store(buf, at, &bytes, CHAN_HEAD);
+    store(buf, at, &head(tag, labels.len() as u32), CHAN_HEAD);
     put_descriptions(buf, at + CHAN_HEAD, labels);
     true
 }

@@ -83,10 +83,7 @@ pub fn known_label(n: u32) -> bool
     if n / 64 == label::HEADPHONES_LEFT / 64 {
         return has_bit(HIGH_LABELS, n);
     }
-    match n {
-        label::UNKNOWN | label::USE_COORDINATES => true,
-        _ => false,
-    }
+    matches!(n, label::UNKNOWN | label::USE_COORDINATES)
 }
 
 // All of them, in the Rust's order.
@@ -151,12 +148,10 @@ pub fn known_tag(n: u32) -> bool
 pub fn all_known(labels: &[u32]) -> bool
     ensures { result ≡ are_known labels.now }
 {
-    let mut i: usize = 0;
-    while i < labels.len() {
-        if !known_label(labels[i]) {
+    for label in labels {
+        if !known_label(*label) {
             return false;
         }
-        i += 1;
     }
     true
 }

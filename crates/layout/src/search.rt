@@ -13,12 +13,10 @@ fn has_labels(row: Row, labels: &[u32]) -> bool
     requires { (row.count ≤ 8) × (row.count ≡ length labels.now) }
     ensures { result ≡ exactly (row_order row) labels.now }
 {
-    let mut i: usize = 0;
-    while i < labels.len() {
-        if row.labels[i] != labels[i] {
+    for (i, label) in labels.iter().enumerate() {
+        if row.labels[i] != *label {
             return false;
         }
-        i += 1;
     }
     true
 }
@@ -29,22 +27,17 @@ fn matches(i: usize, labels: &[u32]) -> bool
     requires { i < 40 }
     ensures { result ≡ exactly (row_order (searched_at i)) labels.now }
 {
-    if searched_count(i) != labels.len() {
-        return false;
-    }
-    has_labels(searched_at(i), labels)
+    searched_count(i) == labels.len() && has_labels(searched_at(i), labels)
 }
 
 // How many of the 40 rows are passed until one matches: all of them where none does.
 fn rows_before(labels: &[u32]) -> usize
     ensures { result ≡ rows_before searched labels.now }
 {
-    let mut i: usize = 0;
-    while i < SEARCHED {
+    for i in 0..SEARCHED {
         if matches(i, labels) {
             return i;
         }
-        i += 1;
     }
     SEARCHED
 }
@@ -54,18 +47,19 @@ pub fn layout_for(labels: &[u32]) -> ChannelLayout
 {
     let i = rows_before(labels);
     if i < SEARCHED {
-        let row = searched_at(i);
-        return ChannelLayout::Tagged(row.tag);
+        ChannelLayout::Tagged(searched_at(i).tag)
+    } else {
+        ChannelLayout::Described
     }
-    ChannelLayout::Described
 }
 
 // No layout where the labels are not as many as the channels.
 pub fn layout_from(labels: &[u32], channels: u32) -> ChannelLayout
     ensures { result ≡ layout_from labels.now channels }
 {
-    if labels.len() != channels as usize {
-        return ChannelLayout::NoLayout;
+    if labels.len() == channels as usize {
+        layout_for(labels)
+    } else {
+        ChannelLayout::NoLayout
     }
-    layout_for(labels)
 }

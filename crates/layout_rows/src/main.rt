@@ -10,54 +10,41 @@ use layout::table::{ROWS, row_at};
 use layout::{ChannelLayout, Row};
 use std::io;
 
-fn number(rt: &impl Print, n: u32) -> io::Result<()> {
-    show::word(rt, b" ")?;
-    show::decimal(rt, n as u64)
-}
-
 fn numbers(rt: &impl Print, labels: &[u32]) -> io::Result<()> {
     for label in labels {
-        number(rt, *label)?;
+        print!(rt; " {label}")?;
     }
     Ok(())
 }
 
 fn answer(rt: &impl Print, layout: ChannelLayout) -> io::Result<()> {
-    show::word(rt, b" gets")?;
     match layout {
-        ChannelLayout::NoLayout => show::word(rt, b" no layout")?,
-        ChannelLayout::Tagged(tag) => number(rt, tag)?,
-        ChannelLayout::Described => show::word(rt, b" described")?,
+        ChannelLayout::NoLayout => println!(rt; " gets no layout"),
+        ChannelLayout::Tagged(tag) => println!(rt; " gets {tag}"),
+        ChannelLayout::Described => println!(rt; " gets described"),
     }
-    show::newline(rt)
 }
 
 fn row_line(rt: &impl Print, row: Row) -> io::Result<()>
     requires { row.count ≤ 8 }
 {
-    let labels = row.labels;
-    let n = row.count;
-    show::decimal(rt, row.tag as u64)?;
-    show::word(rt, b":")?;
-    numbers(rt, &labels[..n])?;
-    answer(rt, layout_for(&labels[..n]))
+    let labels = &row.labels[..row.count];
+    print!(rt; "{}:", row.tag)?;
+    numbers(rt, labels)?;
+    answer(rt, layout_for(labels))
 }
 
 fn other_line(rt: &impl Print, labels: &[u32]) -> io::Result<()> {
-    show::word(rt, b"none:")?;
+    print!(rt; "none:")?;
     numbers(rt, labels)?;
     answer(rt, layout_for(labels))
 }
 
 fn main(rt: HostRuntime) -> io::Result<()> {
-    let mut i: usize = 0;
-    while i < ROWS {
+    for i in 0..ROWS {
         row_line(&rt, row_at(i))?;
-        i += 1;
     }
-    let pair = [RIGHT, LEFT];
-    other_line(&rt, &pair)?;
-    other_line(&rt, &pair[..0])?;
-    let mono = [MONO];
-    other_line(&rt, &mono)
+    other_line(&rt, &[RIGHT, LEFT])?;
+    other_line(&rt, &[])?;
+    other_line(&rt, &[MONO])
 }

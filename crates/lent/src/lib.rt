@@ -2,22 +2,23 @@
 // stores the record that it hands back; on a refusal record and buffer are as they were. The contracts are the by-value definitions.
 #![tactic(auto)]
 
+ghost use Rattle.std.specs.Prelude.{◌≡◌};
+ghost use Rattle.answers.specs.Refused.{outcome_number};
+ghost use Rattle.writer.specs.Shapes.{wrote_of};
+
 pub mod resume;
 pub mod settings;
 pub mod writing;
 
-use writer::CAFWriter;
+use answers::Refusal;
+use writer::record::{handed_back, outcome_of};
+use writer::{CAFWriter, RefusedCall};
 
-// The answer of a resume. `chunks` is the plain reading's count.
-#[derive(Clone, Copy)]
-pub struct ResumeAnswer {
-    pub number: u32,
-    pub chunks: usize,
-}
-
-// The same with the record that the loop goes on with.
-#[derive(Clone, Copy)]
-pub struct Reopened {
-    pub answer: ResumeAnswer,
-    pub writer: CAFWriter,
+// Stores the record that a call handed back.
+fn keep(w: &mut CAFWriter, answer: Result<CAFWriter, RefusedCall>) -> Result<(), Refusal>
+    ensures number { outcome_number result ≡ (wrote_of answer).number }
+    ensures writer { w.new ≡ (wrote_of answer).writer }
+{
+    *w = handed_back(answer);
+    outcome_of(answer)
 }

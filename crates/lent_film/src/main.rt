@@ -4,99 +4,74 @@
 
 mod calls;
 
-use answers::BAD_WRITER;
-use calls::{CALLS, FILM, by_value, lent, show_name};
-use reading::StrictAnswer;
+use answers::Refusal;
+use answers::refusal::number_of;
+use calls::{FILM, by_value, lent};
 use reading::strict::read_strict;
-use show::{decimal, newline, word};
+use reading::{AcceptedFile, RefusedFile};
 use std::io;
-use writer::{CAFWriter, Wrote};
+use writer::record::{handed_back, outcome_of};
+use writer::{CAFWriter, RefusedCall};
 
 // The length of the two buffers.
 const ROOM: usize = 128;
 
-fn same_answer(a: Wrote, b: Wrote) -> bool {
-    let v = a.writer;
-    let w = b.writer;
-    let s = v.stats();
-    let t = w.stats();
-    if a.number != b.number {
-        return false;
-    }
-    if s.data_count != t.data_count {
-        return false;
-    }
-    if s.finished != t.finished {
-        return false;
-    }
-    v.file_len == w.file_len
+fn same_answer(a: Result<CAFWriter, RefusedCall>, b: Result<CAFWriter, RefusedCall>) -> bool {
+    let v = handed_back(a);
+    let w = handed_back(b);
+    outcome_of(a) == outcome_of(b) && v.stats() == w.stats() && v.file_len == w.file_len
 }
 
 // The strict reading of the first bytes of the buffer.
-fn reading_of(buf: &[u8], len: usize) -> StrictAnswer {
-    if buf.len() < len {
-        return StrictAnswer::Rejected(BAD_WRITER, 0);
+fn reading_of(buf: &[u8], len: usize) -> Result<AcceptedFile, RefusedFile> {
+    match buf.get(..len) {
+        Some(file) => read_strict(file),
+        None => Err(RefusedFile::new(Refusal::BadWriter, 0)),
     }
-    read_strict(&buf[..len])
 }
 
-fn show_reading(rt: &impl Print, answer: StrictAnswer) -> io::Result<()> {
+fn show_reading(rt: &impl Print, answer: Result<AcceptedFile, RefusedFile>) -> io::Result<()> {
     match answer {
-        StrictAnswer::Accepted(info, _) => {
-            word(rt, b" payload ")?;
-            decimal(rt, info.payload as u64)?;
-            if info.open {
-                word(rt, b" open")?;
-            } else {
-                word(rt, b" closed")?;
-            }
-            word(rt, b" frames ")?;
-            decimal(rt, info.frames as u64)
+        Ok(AcceptedFile { info, .. }) => {
+            let state = if info.open { "open" } else { "closed" };
+            print!(rt; " payload {} {state} frames {}", info.payload, info.frames)
         }
-        StrictAnswer::Rejected(number, _) => {
-            word(rt, b" rejected ")?;
-            decimal(rt, number as u64)
-        }
+        Err(refused) => print!(rt; " rejected {}", refused.refusal.number()),
     }
 }
 
 // Prints what the record by value came to.
-fn show_wrote(rt: &impl Print, a: Wrote, buf: &[u8]) -> io::Result<()> {
-    let w = a.writer;
+fn show_wrote(rt: &impl Print, a: Result<CAFWriter, RefusedCall>, buf: &[u8]) -> io::Result<()> {
+    let w = handed_back(a);
     let stats = w.stats();
-    word(rt, b" ")?;
-    decimal(rt, a.number as u64)?;
-    word(rt, b" count ")?;
-    decimal(rt, stats.data_count as u64)?;
-    if stats.finished {
-        word(rt, b" finished")?;
-    }
-    word(rt, b" file ")?;
-    decimal(rt, w.file_len as u64)?;
+    let finished = if stats.finished { " finished" } else { "" };
+    print!(rt;
+        " {} count {}{finished} file {}",
+        number_of(outcome_of(a)),
+        stats.data_count,
+        w.file_len
+    )?;
     show_reading(rt, reading_of(buf, w.file_len))
 }
 
 fn main(rt: HostRuntime) -> io::Result<()> {
-    let mut one: [u8; ROOM] = [0; ROOM];
-    let mut two: [u8; ROOM] = [0; ROOM];
+    let mut one = [0; ROOM];
+    let mut two = [0; ROOM];
     let mut v = CAFWriter::new();
     let mut w = CAFWriter::new();
-    let mut i: usize = 0;
-    while i < CALLS {
-        let what = FILM[i];
-        let a = by_value(what, v, &mut one);
-        let b = lent(what, w, &mut two);
-        show_name(&rt, what)?;
+    for call in FILM {
+        let a = by_value(call, v, &mut one);
+        let b = lent(call, w, &mut two);
+        print!(rt; "{call}")?;
         show_wrote(&rt, a, &one)?;
-        if same_answer(a, b) {
-            if one == two {
-                word(&rt, b" same")?;
-            }
-        }
-        newline(&rt)?;
-        v = a.writer;
-        w = b.writer;
-        i += 1;
+        let same = if same_answer(a, b) && one == two {
+            " same"
+        } else {
+            ""
+        };
+        println!(rt; "{same}")?;
+        v = handed_back(a);
+        w = handed_back(b);
     }
     Ok(())
 }

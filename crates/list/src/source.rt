@@ -61,9 +61,7 @@ fn is_file(rt: &impl Files) -> bool {
 fn position(rt: &impl Files) -> Option<u64> {
     let mut text = [0u8; 64];
     let mut info = fs::open(rt, STDIN_INFO).ok()?;
-    let Ok(n) = info.read(&mut text) else {
-        return None;
-    };
+    let n = info.read(&mut text).ok()?;
     let told = str::from_utf8(&text[..n]).ok()?;
     let (first, _) = told.split_once('\n')?;
     let number = first.strip_prefix("pos:")?;
@@ -77,5 +75,5 @@ fn opened<R: Files>(rt: &R) -> Option<R::File> {
     let at = position(rt)?;
     let mut file = fs::open(rt, STDIN).ok()?;
     let reached = file.seek(SeekFrom::Start(at)).ok()?;
-    if reached == at { Some(file) } else { None }
+    (reached == at).then_some(file)
 }

@@ -1,4 +1,5 @@
 -- A format and its numbers: it takes as many places whether it is there or not, they fit, and it comes back from them.
+use Rattle.std.proofs.Common.{Option, Some, None}
 use mathlib.Core.Path.{◌≡◌, refl}
 use mathlib.Core.Bool.{true}
 use lib.ListN.{length}
@@ -7,14 +8,12 @@ use Rattle.byte_order.specs.Rate.{rate_of, bits_of_rate}
 use Rattle.byte_order.proofs.RateRoundTrip.{rate-back}
 use Rattle.format.specs.Desc.{Typed}
 use Rattle.format.specs.declared.AudioFormat.{AudioFormat}
-use Rattle.format.specs.declared.MaybeFormat.{MaybeFormat}
-use Rattle.format.specs.declared.MaybeFormat.TheVariants.{Absent, Present}
 use Rattle.numbers.specs.FormatNumbers.{format_numbers}
 use Rattle.numbers.specs.Words.{is_word}
 
-pub length-format : (f : MaybeFormat) → length (format_numbers f) ≡ 8
-length-format Absent = refl
-length-format (Present f) = refl
+pub length-format : (f : Option AudioFormat) → length (format_numbers f) ≡ 8
+length-format None = refl
+length-format (Some f) = refl
 
 -- a format comes back from its numbers
 abbrev pub again : AudioFormat → AudioFormat

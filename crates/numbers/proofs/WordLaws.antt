@@ -2,10 +2,10 @@
 use mathlib.Core.Path.{◌≡◌, refl, ◌∙◌, ap}
 use mathlib.Core.Bool.{Bool, true, false, ◌&&◌}
 use mathlib.Core.List.{List, [], ◌∷◌, ◌++◌}
-use Prim.Native.Nat.{ℕ, zero, suc, ◌+◌, ◌-◌, ◌/◌, ◌<◌, ◌≤◌, ◌^◌}
+use Prim.Native.Nat.{ℕ, zero, suc, ◌+◌, ◌<◌, ◌≤◌, ◌^◌}
 use native.Mathlib.Omega.{arith}
 use native.Mathlib.Nat.{mod-eq_of_lt}
-use lib.Dec.{eqb, ltb}
+use lib.Dec.{ltb}
 use lib.ListN.{length, get_or, take, drop, length-take, length-drop}
 use lib.Seq.{get_or-take, get_or-drop}
 use lib.Bits.{bit_or, or_lt, or_comm, or_add_and, and_le_r}
@@ -13,12 +13,6 @@ use borrow.Author.Tests.{ltb-true, ltb-false, lt-ltb, le-ltb}
 use Rattle.reading.proofs.Choice.{both}
 use Rattle.numbers.specs.FormatNumbers.{audio_of, audio_low}
 use Rattle.numbers.specs.Words.{at, low, is_word, all_words}
-
--- there is 0 after the last number
-pub get_d_beyond : (xs : List ℕ) (i : ℕ) → length xs ≤ i → get_or xs i 0 ≡ 0
-get_d_beyond [] i h = refl
-get_d_beyond (x ∷ xs) zero h = absurd (let z : ⊥ = omega arith in z)
-get_d_beyond (x ∷ xs) (suc i) h = get_d_beyond xs i (omega arith)
 
 words-at : (xs : List ℕ) → all_words xs ≡ true → (k : ℕ) → k < length xs → get_or xs k 0 < 2 ^ 32
 words-at [] e k h = absurd (let z : ⊥ = omega arith in z)

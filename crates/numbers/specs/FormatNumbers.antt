@@ -1,9 +1,7 @@
 -- A format as C sees it: numbers of 64 bits.
-use Rattle.std.specs.Prelude.{ℕ, Bool, cond, List, [], ◌∷◌, replicate}
+use Rattle.std.specs.Prelude.{ℕ, Bool, cond, List, [], ◌∷◌, replicate, Option, Some, None}
 use Rattle.byte_order.specs.Rate.{rate_of, bits_of_rate}
 use Rattle.format.specs.declared.AudioFormat.{AudioFormat}
-use Rattle.format.specs.declared.MaybeFormat.{MaybeFormat}
-use Rattle.format.specs.declared.MaybeFormat.TheVariants.{Absent, Present}
 use Rattle.format.specs.declared.PCMDataType.{PCMDataType}
 use Rattle.format.specs.declared.PCMDataType.TheVariants.{SignedInteger, Float}
 use Rattle.format.specs.declared.Endianness.{Endianness}
@@ -26,9 +24,9 @@ audio_numbers f =
     ∷ []
 
 -- whether there is a format, 1 or 0, and its numbers; zeros where there is none
-abbrev pub format_numbers : MaybeFormat → List ℕ
-format_numbers Absent = replicate 8 0
-format_numbers (Present f) = 1 ∷ audio_numbers f
+abbrev pub format_numbers : Option AudioFormat → List ℕ
+format_numbers None = replicate 8 0
+format_numbers (Some f) = 1 ∷ audio_numbers f
 
 abbrev pub order_number : Endianness → ℕ
 order_number BigEndian = 0

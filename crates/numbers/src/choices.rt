@@ -8,16 +8,18 @@ pub fn byte_order(little_endian: bool) -> Endianness
     ensures { result ≡ byte_order little_endian }
 {
     if little_endian {
-        return Endianness::LittleEndian;
+        Endianness::LittleEndian
+    } else {
+        Endianness::BigEndian
     }
-    Endianness::BigEndian
 }
 
 pub fn sample_type(is_float: bool) -> PCMDataType
     ensures { result ≡ sample_type is_float }
 {
     if is_float {
-        return PCMDataType::Float;
+        PCMDataType::Float
+    } else {
+        PCMDataType::SignedInteger
     }
-    PCMDataType::SignedInteger
 }

@@ -4,7 +4,6 @@ ghost use Rattle.byte_order.specs.Rate.{rate_of};
 ghost use Rattle.numbers.specs.FormatNumbers.{audio_low};
 
 use crate::words::{number_at, word_at};
-use byte_order::Rate;
 use byte_order::float::rate_from_bits;
 use format::AudioFormat;
 
@@ -30,11 +29,7 @@ pub const AFTER_FORMAT: usize = 8;
 fn rate_of(bits: u64) -> f64
     ensures { result ≡ rate_of bits }
 {
-    let rate = rate_from_bits(bits);
-    match rate {
-        Rate::Number(x) => x,
-        Rate::NotANumber => 0.0 / 0.0,
-    }
+    rate_from_bits(bits).unwrap_or(f64::NAN)
 }
 
 pub fn audio_of(numbers: &[u64]) -> AudioFormat

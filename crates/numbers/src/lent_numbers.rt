@@ -8,21 +8,7 @@ ghost use Rattle.numbers.specs.Lent.{put_at};
 fn has_room(len: usize, at: usize, n: usize) -> bool
     ensures { result ≡ not (ltb len (at + n)) }
 {
-    if len < n {
-        return false;
-    }
-    at <= len - n
-}
-
-fn put_all(out: &mut [u64], at: usize, numbers: &[u64])
-    requires { at + length numbers.now ≤ length out.old }
-    ensures { out.new ≡ splice out.old at numbers.now }
-{
-    let mut i: usize = 0;
-    while i < numbers.len() {
-        out[at + i] = numbers[i];
-        i += 1;
-    }
+    n <= len && at <= len - n
 }
 
 // Puts the numbers from a place on, or none where there is not room for all.
@@ -30,18 +16,7 @@ pub fn put(out: &mut [u64], at: usize, numbers: &[u64])
     ensures { out.new ≡ put_at out.old at numbers.now }
 {
     if has_room(out.len(), at, numbers.len()) {
-        put_all(out, at, numbers);
-    }
-}
-
-fn put_all_words(out: &mut [u64], at: usize, words: &[u32])
-    requires { at + length words.now ≤ length out.old }
-    ensures { out.new ≡ splice out.old at words.now }
-{
-    let mut i: usize = 0;
-    while i < words.len() {
-        out[at + i] = words[i] as u64;
-        i += 1;
+        out[at..at + numbers.len()].copy_from_slice(numbers);
     }
 }
 
@@ -50,7 +25,9 @@ pub fn put_words(out: &mut [u64], at: usize, words: &[u32])
     ensures { out.new ≡ put_at out.old at words.now }
 {
     if has_room(out.len(), at, words.len()) {
-        put_all_words(out, at, words);
+        for (i, word) in words.iter().enumerate() {
+            out[at + i] = u64::from(*word);
+        }
     }
 }
 
@@ -58,8 +35,5 @@ pub fn put_words(out: &mut [u64], at: usize, words: &[u32])
 pub fn flag(on: bool) -> u64
     ensures { result ≡ flag_number on }
 {
-    if on {
-        return 1;
-    }
-    0
+    u64::from(on)
 }

@@ -9,10 +9,7 @@ pub const WORDS: u64 = 0x1_0000_0000;
 pub fn number_at(numbers: &[u64], place: usize) -> u64
     ensures { result ≡ at numbers.now place }
 {
-    if place < numbers.len() {
-        return numbers[place];
-    }
-    0
+    numbers.get(place).copied().unwrap_or(0)
 }
 
 pub fn word_at(numbers: &[u64], place: usize) -> u32
@@ -26,10 +23,8 @@ pub fn words(numbers: &[u64]) -> bool
     ensures { result ≡ all_words numbers.now }
 {
     let mut bits: u64 = 0;
-    let mut i: usize = 0;
-    while i < numbers.len() {
-        bits |= numbers[i];
-        i += 1;
+    for number in numbers {
+        bits |= number;
     }
     bits < WORDS
 }

@@ -2,23 +2,22 @@
 use mathlib.Core.Path.{◌≡◌, refl, sym, ap, ◌∙◌}
 use mathlib.Core.Bool.{Bool, true, false}
 use mathlib.Core.List.{List, [], ◌++◌, append-nil}
-use Prim.Native.Nat.{ℕ, zero, suc, ◌+◌, ◌*◌, ◌^◌, ◌<◌, ◌≤◌, min, max}
-use native.Mathlib.Nat.{add-zero, add-suc, suc-mul, add-mul, mul-le-mul_right}
-use native.Mathlib.Numerals.{add-one}
+use Prim.Native.Nat.{ℕ, zero, suc, ◌+◌, ◌*◌, ◌<◌, ◌≤◌, min, max}
+use native.Mathlib.Nat.{add-zero, add-suc, add-mul, mul-le-mul_right}
 use native.Mathlib.Omega.{arith}
 use lib.Dec.{ltb}
 use lib.ListN.{length, get_or, length-append}
 use borrow.Author.Tests.{ltb-true, ltb-false}
 use Rattle.byte_order.specs.Big.{big_at, big_bytes}
 use Rattle.byte_order.specs.Splice.{splice}
-use Rattle.byte_order.proofs.Laws.{length-splice, more, big-past, big-within, kept}
+use Rattle.byte_order.proofs.Laws.{more, big-past, big-within, kept}
 use Rattle.byte_order.proofs.Places.{front_kept, rest-kept, after_kept, value_there}
 use Rattle.overview.specs.Groups.{chosen, pair_of, channel_pairs}
 use Rattle.overview.specs.Height.{turned, height_at, lowest, highest, set_pair, block_pair, block_pairs}
 use Rattle.overview.specs.Put.{end_of}
 use Rattle.overview.specs.declared.Track.{Track}
 use Rattle.overview.proofs.Heights.{pair_is, span_small}
-use Rattle.overview.proofs.Lengths.{length-pair, length-channels}
+use Rattle.overview.proofs.Lengths.{length-channels}
 use Rattle.overview.proofs.ReadLaws.{two_bytes}
 use Rattle.overview.proofs.SameSamples.{chosen-same}
 use Rattle.overview.proofs.Stored.{channels-stay, span-stays}

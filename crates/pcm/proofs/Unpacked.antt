@@ -1,14 +1,13 @@
 -- Unpacked samples: how many they are, one more of them, and its store.
 use mathlib.Core.Path.{◌≡◌, refl, ap, sym, ◌∙◌}
-use mathlib.Core.List.{List, [], ◌∷◌, ◌++◌}
-use Prim.Native.Nat.{ℕ, zero, suc, ◌+◌, ◌*◌, ◌/◌, ◌%◌, ◌^◌, ◌<◌, ◌≤◌}
-use native.Mathlib.Nat.{zero-add, add-zero}
+use mathlib.Core.List.{List, [], ◌∷◌, ◌++◌, append-nil}
+use Prim.Native.Nat.{ℕ, zero, suc, ◌+◌, ◌*◌, ◌<◌, ◌≤◌}
+use native.Mathlib.Nat.{add-zero}
 use native.Mathlib.Omega.{arith}
 use lib.IntN.{ℤ, pos}
-use lib.ListN.{length, take, drop, get_or, set, length-append}
-use lib.Seq.{drop-cons, set_at, append_snoc, get_or-take, get_or-drop}
-use Rattle.byte_order.specs.Big.{big_at}
-use Rattle.byte_order.specs.Splice.{splice}
+use lib.ListN.{length, take, drop, get_or, set}
+use Rattle.std.proofs.lemmas.List.{drop_all}
+use lib.Seq.{length-take-le, drop-cons, set_at, append_snoc, get_or-take, get_or-drop}
 use Rattle.format.specs.declared.Endianness.{Endianness}
 use Rattle.pcm.specs.Sample.{signed24, number24}
 use Rattle.pcm.specs.Packing.{sample_size}
@@ -50,13 +49,6 @@ unpacked-suc e (suc i) (a ∷ b ∷ c ∷ s) h =
     unpacked-cons e (suc i) a b c s ∙ ap (λ (ys : List ℤ). x ∷ ys) (unpacked-suc e i s (omega arith))
     ∙ rw (unpacked-cons e i a b c s, sample-past e i a b c s)
 
--- a value stored after those that stand at the front
-pub set_next : (d vs : List ℤ) (n : ℕ) (x : ℤ) → length vs ≡ n → n < length d → set (splice d 0 vs) n x ≡ splice d 0 (vs ++ (x ∷ []))
-set_next d vs n x l h =
-    let k : 0 + length (vs ++ (x ∷ [])) ≡ suc n = simp length-append (omega arith) in
-    rw (zero-add, l, k, drop-cons d n (pos 0) h, set_at vs (get_or d n (pos 0)) (drop (suc n) d) x n l)
-    (sym (append_snoc vs x (drop (suc n) d)))
-
 -- a sample read from four bytes that were taken out
 pub sample-within : (e : Endianness) (s : List ℕ) (p : ℕ) → signed24 (number24 e (get_or (take 4 (drop p s)) 0 0) (get_or (take 4 (drop p s)) 1 0) (get_or (take 4 (drop p s)) 2 0)) ≡ sample_at e s p
 sample-within e s p =
@@ -66,14 +58,16 @@ sample-within e s p =
 
 -- one sample more is stored after those that stand at the front
 pub one_more : (e : Endianness) (s : List ℕ) (i : ℕ) (d : List ℤ) (x : ℤ) → x ≡ sample_at e s (sample_size * i) → sample_size * suc i ≤ length s → i < length d
-    → set (splice d 0 (unpacked e (take (sample_size * i) s))) i x ≡ splice d 0 (unpacked e (take (sample_size * suc i) s))
+    → set (unpacked e (take (sample_size * i) s) ++ drop i d) i x ≡ unpacked e (take (sample_size * suc i) s) ++ drop (suc i) d
 one_more e s i d x is h k =
     let vs = unpacked e (take (sample_size * i) s) in
-    rw is (set_next d vs i (sample_at e s (sample_size * i)) (length-unpacked e i s (omega arith)) k) ∙ ap (λ (ws : List ℤ). splice d 0 ws) (sym (unpacked-suc e i s h))
+    rw (drop-cons d i (pos 0) k, set_at vs (get_or d i (pos 0)) (drop (suc i) d) x i (length-unpacked e i s (omega arith)), unpacked-suc e i s h, is)
+    (sym (append_snoc vs (sample_at e s (sample_size * i)) (drop (suc i) d)))
 
--- the number of four bytes without the last of them, and without the first
-pub without-last : (w : List ℕ) (n : ℕ) → n ≡ big_at 4 w 0 → get_or w 3 0 < 256 → n / 256 ≡ big_at 3 (get_or w 0 0 ∷ get_or w 1 0 ∷ get_or w 2 0 ∷ []) 0
-without-last w n is d = omega arith
-
-pub without-first : (a b c d n : ℕ) → n ≡ big_at 4 (d ∷ c ∷ b ∷ a ∷ []) 0 → a < 256 → b < 256 → c < 256 → n % 2 ^ 24 ≡ big_at 3 (c ∷ b ∷ a ∷ []) 0
-without-first a b c d n is x y z = omega arith
+-- the last one is stored after all that stand before it
+pub last_one : (e : Endianness) (s : List ℕ) (d before : List ℤ) (x : ℤ) (n : ℕ) → length d ≡ n + 1 → sample_size * length d ≤ length s
+    → before ≡ unpacked e (take (sample_size * length (take n d)) s) → x ≡ sample_at e s (sample_size * n) → set (before ++ drop n d) n x ≡ unpacked e (take (sample_size * length d) s)
+last_one e s d before x n l h stands is =
+    let those : before ≡ unpacked e (take (sample_size * n) s) = rw (← length-take-le n d (omega arith)) stands in
+    let all : length d ≡ suc n = omega arith in
+    rw (those, one_more e s n d x is (omega arith) (omega arith), drop_all (suc n) d (omega arith), append-nil, all)

@@ -1,5 +1,5 @@
 // The bytes of a small array, put where they have room. The array's length is known at each call, so that a compiler makes one store of
-// the loop.
+// the copy.
 ghost use Rattle.std.specs.Prelude.{◌≡◌, ◌+◌, ◌≤◌, length};
 ghost use Rattle.byte_order.specs.Splice.{splice};
 
@@ -7,9 +7,6 @@ pub(crate) fn put_bytes(buf: &mut [u8], at: usize, bytes: &[u8])
     requires { at + length bytes.now ≤ length buf.old }
     ensures { buf.new ≡ splice buf.old at bytes.now }
 {
-    let mut i: usize = 0;
-    while i < bytes.len() {
-        buf[at + i] = bytes[i];
-        i += 1;
-    }
+    let end = at + bytes.len();
+    buf[at..end].copy_from_slice(bytes);
 }

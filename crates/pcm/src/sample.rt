@@ -2,28 +2,23 @@
 ghost use Rattle.std.specs.Prelude.{◌≡◌, ◌<◌, ◌^◌, get_or};
 ghost use Rattle.pcm.specs.Sample.{low24, bytes24, signed24, number24};
 
-use byte_order::read::be_u32;
 use format::Endianness;
 
 // Bytes of a packed sample.
 pub const SAMPLE_SIZE: usize = 3;
 
-// Adding 2^32 keeps x mod 2^24 and leaves no sign.
+// The bits of x as a number without sign are x mod 2^32.
 pub(crate) fn low_bits(x: i32) -> u32
     ensures { (result ≡ low24 x) × (result < 2 ^ 24) }
 {
-    let y = (x as i64) + 0x1_0000_0000;
-    ((y as u64) % 0x100_0000) as u32
+    x.cast_unsigned() % 0x100_0000
 }
 
-// The byte order is the only difference: the same three bytes from the other end. A byte is written `u / 1 % 256`, as in `big_bytes`.
+// The byte order is the only difference: the same three bytes from the other end.
 pub(crate) fn sample_bytes(x: i32, endianness: Endianness) -> [u8; 3]
     ensures { result ≡ bytes24 endianness (low24 x) }
 {
-    let u = low_bits(x);
-    let high = (u / 0x1_0000 % 256) as u8;
-    let middle = (u / 0x100 % 256) as u8;
-    let low = (u / 1 % 256) as u8;
+    let [_, high, middle, low] = low_bits(x).to_be_bytes();
     match endianness {
         Endianness::BigEndian => [high, middle, low],
         Endianness::LittleEndian => [low, middle, high],
@@ -44,10 +39,7 @@ pub(crate) fn sample_of(word: [u8; 4], endianness: Endianness) -> i32
     ensures { result ≡ signed24 (number24 endianness (get_or word 0 0) (get_or word 1 0) (get_or word 2 0)) }
 {
     match endianness {
-        Endianness::BigEndian => signed_of(be_u32(&word, 0) / 256),
-        Endianness::LittleEndian => {
-            let turned = [word[3], word[2], word[1], word[0]];
-            signed_of(be_u32(&turned, 0) % 0x100_0000)
-        }
+        Endianness::BigEndian => signed_of(u32::from_be_bytes(word) / 256),
+        Endianness::LittleEndian => signed_of(u32::from_le_bytes(word) % 0x100_0000),
     }
 }

@@ -1,52 +1,12 @@
 // Four samples as twelve bytes, stored as a word of eight and one of four. A word is made as a number first: its bytes from the low end
-// are then one store for a compiler, and the stores of four samples are two.
-ghost use Rattle.std.specs.Prelude.{◌≡◌, ◌++◌, reverse, ◌+◌, ◌^◌, ◌≤◌, ◌<◌, length, take, drop};
-ghost use Rattle.byte_order.specs.Big.{big_bytes};
+// are then one store for a compiler, and the stores of four samples are two. The high end first is the number with its bytes swapped:
+// `to_be_bytes` would be as many stores as it has bytes.
+ghost use Rattle.std.specs.Prelude.{◌≡◌, ◌++◌, ◌+◌, ◌^◌, ◌≤◌, ◌<◌, length, take, drop};
 ghost use Rattle.byte_order.specs.Splice.{splice};
 ghost use Rattle.pcm.specs.Sample.{bytes24};
 
 use crate::put::put_bytes;
-use byte_order::read::{u32_of, u64_of};
 use format::Endianness;
-
-fn little_eight(w: u64) -> [u8; 8]
-    ensures { result ≡ reverse (big_bytes 8 w) }
-{
-    [
-        (w / 1 % 256) as u8,
-        (w / 0x100 % 256) as u8,
-        (w / 0x1_0000 % 256) as u8,
-        (w / 0x100_0000 % 256) as u8,
-        (w / 0x1_0000_0000 % 256) as u8,
-        (w / 0x100_0000_0000 % 256) as u8,
-        (w / 0x1_0000_0000_0000 % 256) as u8,
-        (w / 0x100_0000_0000_0000 % 256) as u8,
-    ]
-}
-
-fn little_four(w: u32) -> [u8; 4]
-    ensures { result ≡ reverse (big_bytes 4 w) }
-{
-    [
-        (w / 1 % 256) as u8,
-        (w / 0x100 % 256) as u8,
-        (w / 0x1_0000 % 256) as u8,
-        (w / 0x100_0000 % 256) as u8,
-    ]
-}
-
-// The high end first is the number turned round. Written so, the compiler knows it as a byte swap.
-fn big_eight(w: u64) -> [u8; 8]
-    ensures { result ≡ big_bytes 8 w }
-{
-    little_eight(u64_of(little_eight(w)))
-}
-
-fn big_four(w: u32) -> [u8; 4]
-    ensures { result ≡ big_bytes 4 w }
-{
-    little_four(u32_of(little_four(w)))
-}
 
 // Two samples and two bytes of the third.
 fn eight_of(a: u32, b: u32, c: u32, endianness: Endianness) -> [u8; 8]
@@ -55,12 +15,13 @@ fn eight_of(a: u32, b: u32, c: u32, endianness: Endianness) -> [u8; 8]
 {
     match endianness {
         Endianness::BigEndian => {
-            big_eight(a as u64 * 0x100_0000_0000 + b as u64 * 0x1_0000 + (c / 256) as u64)
+            let word = a as u64 * 0x100_0000_0000 + b as u64 * 0x1_0000 + (c / 256) as u64;
+            word.swap_bytes().to_le_bytes()
         }
         Endianness::LittleEndian => {
-            little_eight(
-                a as u64 + b as u64 * 0x100_0000 + (c % 0x1_0000) as u64 * 0x1_0000_0000_0000,
-            )
+            let third = (c % 0x1_0000) as u64;
+            let word = a as u64 + b as u64 * 0x100_0000 + third * 0x1_0000_0000_0000;
+            word.to_le_bytes()
         }
     }
 }
@@ -71,8 +32,8 @@ fn four_of(c: u32, d: u32, endianness: Endianness) -> [u8; 4]
     ensures { result ≡ drop 2 (bytes24 endianness c) ++ bytes24 endianness d }
 {
     match endianness {
-        Endianness::BigEndian => big_four(c % 256 * 0x100_0000 + d),
-        Endianness::LittleEndian => little_four(c / 0x1_0000 + d * 256),
+        Endianness::BigEndian => (c % 256 * 0x100_0000 + d).swap_bytes().to_le_bytes(),
+        Endianness::LittleEndian => (c / 0x1_0000 + d * 256).to_le_bytes(),
     }
 }
 

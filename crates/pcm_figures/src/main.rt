@@ -2,6 +2,7 @@
 // places after a result show too: they were lent filled with ee, or with the sample 7.
 #![tactic(auto)]
 
+use answers::refusal::number_of;
 use format::Endianness;
 use pcm::packing::pack;
 use pcm::unpacking::unpack;
@@ -41,7 +42,7 @@ fn pack_into(
     show::word(rt, b"pack")?;
     order(rt, endianness)?;
     samples(rt, xs)?;
-    number(rt, pack(xs, endianness, room))?;
+    number(rt, number_of(pack(xs, endianness, room)))?;
     show::hex(rt, room)?;
     show::newline(rt)
 }
@@ -55,7 +56,7 @@ fn unpack_into(
     show::word(rt, b"unpack")?;
     order(rt, endianness)?;
     show::hex(rt, bytes)?;
-    number(rt, unpack(bytes, endianness, room))?;
+    number(rt, number_of(unpack(bytes, endianness, room)))?;
     samples(rt, room)?;
     show::newline(rt)
 }

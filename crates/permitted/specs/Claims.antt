@@ -3,8 +3,8 @@
 use Rattle.std.specs.Prelude.{ℕ, ◌≡◌, Bool, List, ℤ}
 use Rattle.writer.specs.Outcome.{Outcome}
 use Rattle.writer.specs.declared.CAFWriter.{CAFWriter}
-use Rattle.writer.specs.declared.Resumed.{Resumed}
-use Rattle.feeding.specs.declared.Fed.{Fed}
+use Rattle.writer.specs.Shapes.{Resumed}
+use Rattle.feeding.specs.Feed.{Fed}
 use Rattle.record_calls.specs.RecordCalls.{Called, Set, CountedCall}
 use Rattle.record_made.specs.RecordMade.{ResumeCall, ResumeCountedCall, StatsCall}
 use Rattle.feeder_calls.specs.FeederCalls.{FeederCall}

@@ -7,8 +7,7 @@ use Rattle.format.specs.Desc.{desc_size}
 use Rattle.reading.specs.Types.{'desc', 'data', type_size, chunk_header_size, edit_size, negative}
 use Rattle.reading.specs.Step.{left, stands_at, size_at, body_at, bad_rate_at, desc_at, skip_at}
 use Rattle.reading.specs.Rules.{Plain, plain_data, step_by}
-use Rattle.reading.specs.declared.Step.{Step}
-use Rattle.reading.specs.declared.Step.TheVariants.{Format, Skip, Closed, Data, End, Refused}
+use Rattle.reading.specs.Shapes.{Step, Format, Skip, Closed, Data, End, Refused}
 use Rattle.reading.proofs.Choice.{either}
 
 abbrev pub PlainStep : Step → Type 0

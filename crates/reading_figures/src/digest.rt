@@ -1,10 +1,11 @@
 // A digest of answers: every number of an answer, folded into one.
 ghost use Rattle.std.specs.Prelude.{◌≤◌, length};
 
-use format::{AudioFormat, Endianness, MaybeFormat};
+use answers::refusal::DONE;
+use format::{AudioFormat, Endianness};
 use reading::plain::parse_caf_file;
 use reading::strict::read_strict;
-use reading::{PlainAnswer, StrictAnswer, StrictInfo};
+use reading::{AcceptedFile, FoundFile, RefusedFile, StrictInfo};
 
 fn fold(digest: u64, word: u64) -> u64 {
     digest % 0x1_0000_0000 * 1_000_003 + word % 0x1_0000_0000
@@ -19,10 +20,10 @@ fn fold_format(digest: u64, format: AudioFormat) -> u64 {
     fold(packet, format.channels_per_frame as u64)
 }
 
-fn fold_maybe(digest: u64, format: MaybeFormat) -> u64 {
+fn fold_maybe(digest: u64, format: Option<AudioFormat>) -> u64 {
     match format {
-        MaybeFormat::Absent => fold(digest, 0),
-        MaybeFormat::Present(f) => fold_format(digest, f),
+        None => fold(digest, 0),
+        Some(f) => fold_format(digest, f),
     }
 }
 
@@ -33,19 +34,21 @@ fn fold_order(digest: u64, order: Endianness) -> u64 {
     }
 }
 
-fn fold_refusal(digest: u64, number: u32, chunks: usize) -> u64 {
+fn fold_number(digest: u64, number: u32, chunks: usize) -> u64 {
     fold_size(fold(digest, number as u64), chunks)
 }
 
-fn fold_plain(digest: u64, answer: PlainAnswer) -> u64 {
+fn fold_refused(digest: u64, refused: RefusedFile) -> u64 {
+    fold_number(digest, refused.refusal.number(), refused.chunks)
+}
+
+fn fold_plain(digest: u64, answer: Result<FoundFile, RefusedFile>) -> u64 {
     match answer {
-        PlainAnswer::NotRead(number, chunks) => fold_refusal(digest, number, chunks),
-        PlainAnswer::Found(info, chunks) => {
-            let met = fold_refusal(digest, answers::DONE, chunks);
+        Err(refused) => fold_refused(digest, refused),
+        Ok(FoundFile { info, chunks }) => {
+            let met = fold_number(digest, DONE, chunks);
             let places = fold_size(fold_size(met, info.size_position), info.data_start);
-            let order = info.endianness;
-            let format = info.format;
-            fold_maybe(fold_order(places, order), format)
+            fold_maybe(fold_order(places, info.endianness), info.format)
         }
     }
 }
@@ -56,12 +59,10 @@ fn fold_info(digest: u64, info: StrictInfo) -> u64 {
     fold_format(fold_size(payload, info.frames), info.format)
 }
 
-fn fold_strict(digest: u64, answer: StrictAnswer) -> u64 {
+fn fold_strict(digest: u64, answer: Result<AcceptedFile, RefusedFile>) -> u64 {
     match answer {
-        StrictAnswer::Rejected(number, chunks) => fold_refusal(digest, number, chunks),
-        StrictAnswer::Accepted(info, chunks) => {
-            fold_info(fold_refusal(digest, answers::DONE, chunks), info)
-        }
+        Err(refused) => fold_refused(digest, refused),
+        Ok(AcceptedFile { info, chunks }) => fold_info(fold_number(digest, DONE, chunks), info),
     }
 }
 
@@ -78,10 +79,8 @@ pub(crate) fn every_cut(file: &[u8], from: usize, to: usize, so_far: u64) -> u64
     requires { (from ≤ to) × (to ≤ length file.now) }
 {
     let mut digest = so_far;
-    let mut n = from;
-    while n < to {
-        n += 1;
-        digest = fold_file(digest, file, n);
+    for n in from..to {
+        digest = fold_file(digest, file, n + 1);
     }
     digest
 }

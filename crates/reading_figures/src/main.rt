@@ -21,11 +21,9 @@ fn one_more(slots: &[u8], file: &mut [u8], at: usize, so_far: u64) -> u64
     ensures { length file.new ≡ length file.old }
 {
     let mut digest = so_far;
-    let mut i: usize = 0;
-    while i < PIECES {
+    for i in 0..PIECES {
         let end = put(slots, i, file, at);
         digest = every_cut(file, at, end, digest);
-        i += 1;
     }
     digest
 }
@@ -36,12 +34,10 @@ fn two_more(slots: &[u8], file: &mut [u8], at: usize) -> u64
     ensures { length file.new ≡ length file.old }
 {
     let mut digest: u64 = 0;
-    let mut i: usize = 0;
-    while i < PIECES {
+    for i in 0..PIECES {
         let end = put(slots, i, file, at);
         digest = every_cut(file, at, end, digest);
         digest = one_more(slots, file, end, digest);
-        i += 1;
     }
     digest
 }
@@ -70,13 +66,11 @@ fn lines(rt: &impl Print, slots: &[u8], file: &mut [u8], names: &[u8], at: usize
     requires { at ≤ length file.old }
     ensures { length file.new ≡ length file.old }
 {
-    let mut i: usize = 0;
-    while i < PIECES {
+    for i in 0..PIECES {
         let end = put(slots, i, file, at);
         word(rt, names)?;
         letter(rt, i)?;
         line(rt, slots, file, end)?;
-        i += 1;
     }
     Ok(())
 }
@@ -90,12 +84,10 @@ const HEADERS: usize = 2;
 fn begun(rt: &impl Print, slots: &[u8], file: &mut [u8]) -> io::Result<()>
     ensures { length file.new ≡ length file.old }
 {
-    let mut i: usize = 0;
-    while i < HEADERS {
+    for i in 0..HEADERS {
         let at = put(slots, i, file, 0);
         let names = [97 + i as u8];
         lines(rt, slots, file, &names, at)?;
-        i += 1;
     }
     Ok(())
 }

@@ -1,10 +1,11 @@
 // The answers as words.
 ghost use Rattle.std.specs.Prelude.{◌≤◌, length};
 
-use format::{AudioFormat, Endianness, MaybeFormat};
+use answers::refusal::DONE;
+use format::{AudioFormat, Endianness};
 use reading::plain::parse_caf_file;
 use reading::strict::read_strict;
-use reading::{PlainAnswer, StrictAnswer, StrictInfo};
+use reading::{AcceptedFile, FoundFile, RefusedFile, StrictInfo};
 use show::{decimal, word};
 use std::io;
 
@@ -18,9 +19,14 @@ fn size(rt: &impl Print, n: usize) -> io::Result<()> {
     number(rt, n as u64)
 }
 
-fn numbers(rt: &impl Print, refusal: u32, chunks: usize) -> io::Result<()> {
-    number(rt, refusal as u64)?;
+// What an answer is told by, and how many chunk headers were met.
+fn told(rt: &impl Print, outcome: u32, chunks: usize) -> io::Result<()> {
+    number(rt, outcome as u64)?;
     size(rt, chunks)
+}
+
+fn refused_words(rt: &impl Print, refused: RefusedFile) -> io::Result<()> {
+    told(rt, refused.refusal.number(), refused.chunks)
 }
 
 fn format_words(rt: &impl Print, format: AudioFormat) -> io::Result<()> {
@@ -28,10 +34,10 @@ fn format_words(rt: &impl Print, format: AudioFormat) -> io::Result<()> {
     number(rt, format.channels_per_frame as u64)
 }
 
-fn maybe_words(rt: &impl Print, format: MaybeFormat) -> io::Result<()> {
+fn maybe_words(rt: &impl Print, format: Option<AudioFormat>) -> io::Result<()> {
     match format {
-        MaybeFormat::Absent => word(rt, b" none"),
-        MaybeFormat::Present(f) => format_words(rt, f),
+        None => word(rt, b" none"),
+        Some(f) => format_words(rt, f),
     }
 }
 
@@ -42,17 +48,15 @@ fn order_word(rt: &impl Print, order: Endianness) -> io::Result<()> {
     }
 }
 
-fn plain_words(rt: &impl Print, answer: PlainAnswer) -> io::Result<()> {
+fn plain_words(rt: &impl Print, answer: Result<FoundFile, RefusedFile>) -> io::Result<()> {
     match answer {
-        PlainAnswer::NotRead(refusal, chunks) => numbers(rt, refusal, chunks),
-        PlainAnswer::Found(info, chunks) => {
-            numbers(rt, answers::DONE, chunks)?;
+        Err(refused) => refused_words(rt, refused),
+        Ok(FoundFile { info, chunks }) => {
+            told(rt, DONE, chunks)?;
             size(rt, info.size_position)?;
             size(rt, info.data_start)?;
-            let order = info.endianness;
-            let format = info.format;
-            order_word(rt, order)?;
-            maybe_words(rt, format)
+            order_word(rt, info.endianness)?;
+            maybe_words(rt, info.format)
         }
     }
 }
@@ -70,11 +74,11 @@ fn info_words(rt: &impl Print, info: StrictInfo) -> io::Result<()> {
     format_words(rt, info.format)
 }
 
-fn strict_words(rt: &impl Print, answer: StrictAnswer) -> io::Result<()> {
+fn strict_words(rt: &impl Print, answer: Result<AcceptedFile, RefusedFile>) -> io::Result<()> {
     match answer {
-        StrictAnswer::Rejected(refusal, chunks) => numbers(rt, refusal, chunks),
-        StrictAnswer::Accepted(info, chunks) => {
-            numbers(rt, answers::DONE, chunks)?;
+        Err(refused) => refused_words(rt, refused),
+        Ok(AcceptedFile { info, chunks }) => {
+            told(rt, DONE, chunks)?;
             info_words(rt, info)
         }
     }

@@ -5,9 +5,13 @@ use mathlib.Core.List.{List, [], ◌∷◌}
 use Prim.Native.Nat.{ℕ, suc, ◌<◌}
 use native.Mathlib.Omega.{arith}
 use lib.Dec.{eqb}
-use lib.ListN.{get_or, take, drop}
-use borrow.Author.Tests.{eqb-true, le-ltb}
+use lib.ListN.{get_or, take, drop, replicate}
+use borrow.Author.Tests.{eqb-true, ne_eqb, le-ltb}
 use Rattle.answers.specs.Numbers.{done}
+use Rattle.answers.specs.Refused.{refusal_number}
+use Rattle.answers.specs.declared.refusal.Refusal.{Refusal}
+use Rattle.numbers.specs.Lent.{number_given, lent_after}
+use Rattle.numbers.proofs.Refused.{refused-some}
 use Rattle.byte_order.specs.Splice.{splice}
 use Rattle.format.specs.Desc.{Typed}
 use Rattle.reading.specs.Answers.{strict_number}
@@ -15,8 +19,7 @@ use Rattle.reading.specs.Claims.{Bytes}
 use Rattle.reading.specs.Grammar.{values_of}
 use Rattle.reading.specs.Strict.{strict}
 use Rattle.reading.specs.declared.StrictInfo.{StrictInfo}
-use Rattle.reading.specs.declared.StrictAnswer.{StrictAnswer}
-use Rattle.reading.specs.declared.StrictAnswer.TheVariants.{Accepted, Rejected}
+use Rattle.reading.specs.Shapes.{StrictAnswer, Accepted, Rejected}
 use Rattle.reading.proofs.Refusals.{strict-found}
 use Rattle.reading.proofs.Sound.{sound}
 use Rattle.numbers.specs.FormatNumbers.{audio_low}
@@ -24,7 +27,7 @@ use Rattle.numbers.specs.Words.{all_words}
 use Rattle.numbers.proofs.FormatLaws.{format_back, words}
 use Rattle.numbers.proofs.WordLaws.{audio-words}
 use Rattle.record_numbers.proofs.RecordBack.{flag-back}
-use Rattle.reading_numbers.specs.ReadingNumbers.{strict_numbers, strict_of}
+use Rattle.reading_numbers.specs.ReadingNumbers.{strict_places, strict_numbers, strict_of}
 use Rattle.reading_numbers.specs.ReadingClaims.{StrictBack}
 
 -- the elements of a slice of bytes, read one by one
@@ -73,3 +76,12 @@ module _ (s out : List ℕ) (bytes : Bytes s) where
 
 pub strict-back : StrictBack
 strict-back s out bytes room = rw (le-ltb _ _ room) (answer_back s out bytes (strict s) refl)
+
+-- so from the numbers that the call gives and leaves in an array of its own
+pub told-back : (s : List ℕ) (bytes : Bytes s) {number : ℕ} {found : List ℕ} → number ≡ number_given strict_places (replicate strict_places 0) (strict_number (strict s))
+    → found ≡ lent_after strict_places (replicate strict_places 0) (strict_numbers (strict s)) → strict_of number found ≡ strict s
+told-back s bytes n f = rw (n, f) (strict-back s (replicate strict_places 0) bytes (omega arith))
+
+-- no refusal has the number of an accepted file
+pub not-done : (r : Refusal) → eqb (refusal_number r) done ≡ false
+not-done r = ne_eqb (refusal_number r) done (refused-some r)

@@ -1,13 +1,11 @@
 -- 02, T-03, for C: a `chan` read, and the place of the first one, as numbers that go to lent arrays.
-use Rattle.std.specs.Prelude.{ℕ, ◌≡◌, cond, List, [], ◌∷◌, length, ltb}
+use Rattle.std.specs.Prelude.{ℕ, ◌≡◌, cond, List, [], ◌∷◌, length, ltb, Option, Some, None}
 use Rattle.answers.specs.Numbers.{done}
 use Rattle.byte_order.specs.Splice.{splice}
 use Rattle.layout.specs.declared.NamedOrder.{NamedOrder}
 use Rattle.chan_reading.specs.Read.{chan_read, chan_numbers}
-use Rattle.chan_reading.specs.declared.ChanAnswer.{ChanAnswer}
-use Rattle.chan_reading.specs.declared.ChanAnswer.TheVariants.{Given, Refused}
-use Rattle.chan_reading.specs.declared.ChanPlace.{ChanPlace}
-use Rattle.chan_reading.specs.declared.ChanPlace.TheVariants.{At, Nowhere}
+use Rattle.chan_reading.specs.Shapes.{ChanAnswer, Given, Refused}
+use Rattle.reading.specs.declared.Body.{Body}
 use Rattle.numbers.specs.Lent.{number_given, lent_after}
 
 -- the reader's answer: its number, and its other numbers, none for a refusal. The order is its count and as many places as a row has
@@ -29,9 +27,9 @@ pub record ReadCall (body : List ℕ) (channels : ℕ) (out answer : List ℕ) (
   pub told : answerAfter ≡ lent_after read_places answer (read_numbers (chan_read body channels (length out)).answer (chan_read body channels (length out)).order)
 
 -- a place: 1 with start and size, or three zeros
-abbrev pub place_numbers : ChanPlace → List ℕ
-place_numbers (At start size) = 1 ∷ start ∷ size ∷ []
-place_numbers Nowhere = 0 ∷ 0 ∷ 0 ∷ []
+abbrev pub place_numbers : Option Body → List ℕ
+place_numbers (Some b) = 1 ∷ b.start ∷ b.size ∷ []
+place_numbers None = 0 ∷ 0 ∷ 0 ∷ []
 
 abbrev pub place_places : ℕ
 place_places = 3

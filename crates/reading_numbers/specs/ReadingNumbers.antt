@@ -1,11 +1,8 @@
 -- The numbers of a reading's answer, as they go to a lent array. The first is always the count of chunk headers met.
 use Rattle.std.specs.Prelude.{ℕ, cond, List, [], ◌∷◌, ◌++◌, eqb}
 use Rattle.answers.specs.Numbers.{done}
-use Rattle.reading.specs.declared.PlainAnswer.{PlainAnswer}
-use Rattle.reading.specs.declared.PlainAnswer.TheVariants.{Found, NotRead}
+use Rattle.reading.specs.Shapes.{PlainAnswer, Found, NotRead, StrictAnswer, Accepted, Rejected}
 use Rattle.reading.specs.declared.StrictInfo.{StrictInfo}
-use Rattle.reading.specs.declared.StrictAnswer.{StrictAnswer}
-use Rattle.reading.specs.declared.StrictAnswer.TheVariants.{Accepted, Rejected}
 use Rattle.numbers.specs.FormatNumbers.{flag_number, audio_numbers, format_numbers, order_number, audio_low}
 use Rattle.numbers.specs.Words.{at}
 

@@ -1,18 +1,19 @@
 // A `chan` read, and the first one of a file found, as numbers.
-ghost use Rattle.std.specs.Prelude.{◌≡◌, ◌≤◌, length};
+ghost use Rattle.std.specs.Prelude.{◌≡◌, ◌≤◌, length, Ok};
 ghost use Rattle.answers.specs.Numbers.{done};
 ghost use Rattle.byte_order.specs.Splice.{splice};
 ghost use Rattle.chan_reading.specs.Find.{find_chan};
-ghost use Rattle.chan_reading.specs.declared.ChanAnswer.TheVariants.{Given as answer·Given};
+ghost use Rattle.chan_reading.specs.Shapes.{read_of};
 ghost use Rattle.numbers.specs.Lent.{number_given, lent_after};
 ghost use Rattle.reading_numbers.specs.ChanNumbers.{read_number, read_numbers, read_places, ReadCall, place_numbers, place_places};
 
-use answers::{DONE, NO_ROOM};
+use answers::Refusal;
+use answers::refusal::DONE;
+use chan_reading::ChanRead;
 use chan_reading::describe::read_chan;
 use chan_reading::find::find_chan;
-use chan_reading::{ChanAnswer, ChanHead, ChanPlace, ChanRead};
-use layout::NamedOrder;
 use numbers::lent_numbers::{put, put_words};
+use reading::Body;
 
 // The places of what a `chan` says: its tag and the three numbers after it, and the order that the tag stands for.
 const SAID_TAG: usize = 0;
@@ -24,10 +25,11 @@ const READ_PLACES: usize = 12;
 // Whether there is one, its start and its size.
 const PLACE_PLACES: usize = 3;
 
-fn put_given(answer: &mut [u64], head: ChanHead, order: NamedOrder)
+fn put_given(answer: &mut [u64], read: ChanRead)
     requires { read_places ≤ length answer.old }
-    ensures { answer.new ≡ splice answer.old 0 (read_numbers (answer·Given head) order) }
+    ensures { answer.new ≡ splice answer.old 0 (read_numbers (read_of (Ok read)).answer read.order) }
 {
+    let ChanRead { head, order } = read;
     let numbers = [
         head.tag as u64,
         head.bitmap as u64,
@@ -35,22 +37,19 @@ fn put_given(answer: &mut [u64], head: ChanHead, order: NamedOrder)
         order.count as u64,
     ];
     put(answer, SAID_TAG, &numbers);
-    let labels = order.labels;
-    put_words(answer, SAID_ORDER, &labels);
+    put_words(answer, SAID_ORDER, &order.labels);
 }
 
-fn tell_read(answer: &mut [u64], read: ChanRead) -> u32
+fn tell_read(answer: &mut [u64], read: Result<ChanRead, Refusal>) -> u32
     requires { read_places ≤ length answer.old }
-    ensures { (result ≡ read_number read.answer) × (answer.new ≡ splice answer.old 0 (read_numbers read.answer read.order)) }
+    ensures { (result ≡ read_number (read_of read).answer) × (answer.new ≡ splice answer.old 0 (read_numbers (read_of read).answer (read_of read).order)) }
 {
-    let said = read.answer;
-    match said {
-        ChanAnswer::Refused(number) => number,
-        ChanAnswer::Given(head) => {
-            let order = read.order;
-            put_given(answer, head, order);
+    match read {
+        Ok(given) => {
+            put_given(answer, given);
             DONE
         }
+        Err(refusal) => refusal.number(),
     }
 }
 
@@ -59,18 +58,17 @@ pub fn tell_chan(body: &[u8], channels: u32, out: &mut [u32], answer: &mut [u64]
     ensures { ReadCall body.now channels out.old answer.old result out.new answer.new }
 {
     if answer.len() < READ_PLACES {
-        return NO_ROOM;
+        return Refusal::NoRoom.number();
     }
-    let read = read_chan(body, channels, out);
-    tell_read(answer, read)
+    tell_read(answer, read_chan(body, channels, out))
 }
 
-fn place_numbers(place: ChanPlace) -> [u64; 3]
+fn place_numbers(place: Option<Body>) -> [u64; 3]
     ensures { result ≡ place_numbers place }
 {
     match place {
-        ChanPlace::At(start, size) => [1, start as u64, size as u64],
-        ChanPlace::Nowhere => [0, 0, 0],
+        Some(body) => [1, body.start as u64, body.size as u64],
+        None => [0; 3],
     }
 }
 
@@ -79,10 +77,8 @@ pub fn tell_place(file: &[u8], out: &mut [u64]) -> u32
     ensures out_after { out.new ≡ lent_after place_places out.old (place_numbers (find_chan file.now)) }
 {
     if out.len() < PLACE_PLACES {
-        return NO_ROOM;
+        return Refusal::NoRoom.number();
     }
-    let place = find_chan(file);
-    let numbers = place_numbers(place);
-    put(out, 0, &numbers);
+    put(out, 0, &place_numbers(find_chan(file)));
     DONE
 }

@@ -5,7 +5,8 @@ ghost use Rattle.layout.specs.Search.{layout_for};
 ghost use Rattle.numbers.specs.Lent.{number_given, lent_after};
 ghost use Rattle.reading_numbers.specs.LayoutNumbers.{layout_places, layout_numbers};
 
-use answers::{DONE, NO_ROOM};
+use answers::Refusal;
+use answers::refusal::DONE;
 use layout::search::layout_for;
 use numbers::lent_numbers::put;
 use record_numbers::record_to_numbers::{layout_kind, layout_tag};
@@ -17,10 +18,9 @@ pub fn tell_layout(labels: &[u32], out: &mut [u64]) -> u32
     ensures out_after { out.new ≡ lent_after layout_places out.old (layout_numbers (layout_for labels.now)) }
 {
     if out.len() < LAYOUT_PLACES {
-        return NO_ROOM;
+        return Refusal::NoRoom.number();
     }
     let layout = layout_for(labels);
-    let numbers = [layout_kind(layout), layout_tag(layout)];
-    put(out, 0, &numbers);
+    put(out, 0, &[layout_kind(layout), layout_tag(layout)]);
     DONE
 }

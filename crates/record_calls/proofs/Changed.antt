@@ -1,21 +1,21 @@
 -- A call that looks at the array's own numbers and changes some of them: what it promises of the record is so too.
+use Rattle.std.proofs.Common.{Some, None}
 use mathlib.Core.Path.{◌≡◌, refl, sym, ◌∙◌, ap}
 use mathlib.Core.Bool.{Bool, true, false, cond, ◌&&◌}
 use mathlib.Core.List.{List}
-use Prim.Native.Nat.{ℕ, ◌+◌, ◌-◌, ◌<◌, ◌≤◌, ◌^◌}
+use Prim.Native.Nat.{ℕ, ◌+◌, ◌<◌, ◌^◌}
 use native.Mathlib.Omega.{arith}
 use lib.Dec.{eqb}
 use lib.ListN.{length, length-take, length-drop}
 use borrow.Author.Tests.{ne_eqb}
-use Rattle.answers.specs.Numbers.{done, bad_writer, file_max}
+use Rattle.answers.specs.Numbers.{done, bad_writer}
 use Rattle.byte_order.proofs.Laws.{splice-nil}
-use Rattle.format.specs.declared.MaybeFormat.TheVariants.{Absent, Present}
 use Rattle.refusals.specs.Numbers.{is_absent, data_number_as, samples_number_as, finish_number_as}
 use Rattle.refusals.specs.Sound.{rate_sound}
 use Rattle.writer.specs.Sound.{format_sound, sound}
 use Rattle.writer.specs.Data.{data_number, samples_number}
 use Rattle.writer.specs.Finish.{finish_number}
-use Rattle.writer.specs.Outcome.{Outcome, unchanged, unless_refused, answer, buffer_after}
+use Rattle.writer.specs.Outcome.{Outcome, unless_refused, buffer_after}
 use Rattle.writer.specs.declared.CAFWriter.{CAFWriter}
 use Rattle.writer.proofs.Tests.{accepted, refused, two}
 use Rattle.writer.proofs.Allowed.{data-allowed}
@@ -41,7 +41,7 @@ module _ (held : List ℕ) (room n : ℕ) where
   absent-seen : eqb (at held 0) 0 ≡ is_absent (maybe_of held)
   absent-seen = go (eqb (at held 0) 0)
     where
-      go : (b : Bool) → b ≡ is_absent (cond b Absent (Present (audio_of held)))
+      go : (b : Bool) → b ≡ is_absent (cond b None (Some (audio_of held)))
       go true = refl
       go false = refl
 

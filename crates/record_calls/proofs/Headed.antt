@@ -11,8 +11,8 @@ use Rattle.writer.specs.Record.{with_header}
 use Rattle.writer.specs.Outcome.{Outcome, buffer_cut, counted}
 use Rattle.writer.specs.Header.{header_call}
 use Rattle.writer.specs.declared.CAFWriter.{CAFWriter}
-use Rattle.writer.specs.declared.Counted.{Counted}
-use Rattle.writer.specs.declared.Wrote.{Wrote}
+use Rattle.writer.specs.Shapes.{Counted}
+use Rattle.writer.specs.Shapes.{Wrote}
 use Rattle.writer.proofs.Allowed.{header-allowed}
 use Rattle.writer.proofs.Facts.{sound-alone}
 use Rattle.writer.proofs.Whole.{all, header-buffer, header-least, header-answer, header-number}

@@ -6,8 +6,8 @@ use Rattle.writer.specs.Record.{fresh}
 use Rattle.writer.specs.Finish.{final_size}
 use Rattle.writer.specs.Outcome.{Outcome, unchanged, answer, buffer_after, buffer_cut, counted}
 use Rattle.writer.specs.declared.CAFWriter.{CAFWriter}
-use Rattle.writer.specs.declared.Wrote.{Wrote}
-use Rattle.writer.specs.declared.Counted.{Counted}
+use Rattle.writer.specs.Shapes.{Wrote}
+use Rattle.writer.specs.Shapes.{Counted}
 use Rattle.numbers.specs.Lent.{number_given, lent_after}
 use Rattle.record_numbers.specs.RecordNumbers.{is_record, record_of, record_numbers, record_put}
 

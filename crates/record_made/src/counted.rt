@@ -5,46 +5,47 @@ ghost use Rattle.byte_order.specs.Splice.{splice};
 ghost use Rattle.writer.specs.Header.{header_call};
 ghost use Rattle.writer.specs.Data.{data_call, samples_call};
 ghost use Rattle.writer.specs.Finish.{finish_call};
-ghost use Rattle.record_calls.specs.RecordCalls.{counted_places, counted_numbers, no_count, CountedCall};
+ghost use Rattle.writer.specs.Shapes.{counted_of};
+ghost use Rattle.record_calls.specs.RecordCalls.{counted_places, counted_numbers, CountedCall};
 
-use answers::{BAD_WRITER, NO_ROOM};
+use answers::Refusal;
+use answers::refusal::DONE;
 use numbers::lent_numbers::put;
 use record_numbers::record_from_numbers::record_in;
 use writer::Counted;
 
 const COUNTED_PLACES: usize = 2;
 
-fn no_count() -> Counted
-    ensures { result ≡ no_count }
-{
-    Counted {
-        number: BAD_WRITER,
-        stores: 0,
-        file_len: 0,
-    }
-}
-
-fn tell(out: &mut [u64], done: Counted) -> u32
+fn tell(out: &mut [u64], file_len: usize, outcome: Result<Counted, Refusal>) -> u32
     requires { counted_places ≤ length out.old }
-    ensures { (result ≡ done.number) × (out.new ≡ splice out.old 0 (counted_numbers done)) }
+    ensures { (result ≡ (counted_of file_len outcome).number) × (out.new ≡ splice out.old 0 (counted_numbers (counted_of file_len outcome))) }
 {
-    let numbers = [done.stores as u64, done.file_len as u64];
-    put(out, 0, &numbers);
-    done.number
+    match outcome {
+        Ok(done) => {
+            put(out, 0, &[done.stores as u64, done.file_len as u64]);
+            DONE
+        }
+        Err(refusal) => {
+            put(out, 0, &[0, file_len as u64]);
+            refusal.number()
+        }
+    }
 }
 
 pub fn write_header_counted(held: &[u64], buf: &mut [u8], n: u64, out: &mut [u64]) -> u32
     ensures { CountedCall n held.now buf.old out.old (λ w. header_call w (length buf.old)) result buf.new out.new }
 {
     if out.len() < COUNTED_PLACES {
-        return NO_ROOM;
+        return Refusal::NoRoom.number();
     }
-    let kept = record_in(held);
-    if !kept.stands {
-        return tell(out, no_count());
-    }
-    let done = kept.writer.write_header_counted(buf, n as usize);
-    tell(out, done)
+    let Some(writer) = record_in(held) else {
+        return tell(out, 0, Err(Refusal::BadWriter));
+    };
+    tell(
+        out,
+        writer.file_len,
+        writer.write_header_counted(buf, n as usize),
+    )
 }
 
 pub fn write_data_counted(
@@ -57,14 +58,16 @@ pub fn write_data_counted(
     ensures { CountedCall n held.now buf.old out.old (λ w. data_call w (length buf.old) bytes.now) result buf.new out.new }
 {
     if out.len() < COUNTED_PLACES {
-        return NO_ROOM;
+        return Refusal::NoRoom.number();
     }
-    let kept = record_in(held);
-    if !kept.stands {
-        return tell(out, no_count());
-    }
-    let done = kept.writer.write_data_counted(buf, bytes, n as usize);
-    tell(out, done)
+    let Some(writer) = record_in(held) else {
+        return tell(out, 0, Err(Refusal::BadWriter));
+    };
+    tell(
+        out,
+        writer.file_len,
+        writer.write_data_counted(buf, bytes, n as usize),
+    )
 }
 
 pub fn write_samples_counted(
@@ -77,28 +80,26 @@ pub fn write_samples_counted(
     ensures { CountedCall n held.now buf.old out.old (λ w. samples_call w (length buf.old) samples.now) result buf.new out.new }
 {
     if out.len() < COUNTED_PLACES {
-        return NO_ROOM;
+        return Refusal::NoRoom.number();
     }
-    let kept = record_in(held);
-    if !kept.stands {
-        return tell(out, no_count());
-    }
-    let done = kept
-        .writer
-        .write_pcm_24bit_as_packed_counted(buf, samples, n as usize);
-    tell(out, done)
+    let Some(writer) = record_in(held) else {
+        return tell(out, 0, Err(Refusal::BadWriter));
+    };
+    tell(
+        out,
+        writer.file_len,
+        writer.write_pcm_24bit_as_packed_counted(buf, samples, n as usize),
+    )
 }
 
 pub fn finish_counted(held: &[u64], buf: &mut [u8], n: u64, out: &mut [u64]) -> u32
     ensures { CountedCall n held.now buf.old out.old (λ w. finish_call w (length buf.old)) result buf.new out.new }
 {
     if out.len() < COUNTED_PLACES {
-        return NO_ROOM;
+        return Refusal::NoRoom.number();
     }
-    let kept = record_in(held);
-    if !kept.stands {
-        return tell(out, no_count());
-    }
-    let done = kept.writer.finish_counted(buf, n as usize);
-    tell(out, done)
+    let Some(writer) = record_in(held) else {
+        return tell(out, 0, Err(Refusal::BadWriter));
+    };
+    tell(out, writer.file_len, writer.finish_counted(buf, n as usize))
 }

@@ -19,18 +19,14 @@ use numbers::words::{WORDS, number_at};
 use refusals::of_format::format_sound;
 use refusals::places::places_sound;
 
+#[tactic(auto, using(crate::proofs::Records::record_parts))]
 fn labels_known(numbers: &[u64], count: usize) -> bool
     requires { (is_record numbers.now ≡ true) × (count ≤ 64) }
     ensures { result ≡ are_known (take count (labels_in numbers.now)) }
 {
-    let mut i: usize = 0;
-    while i < count {
-        if !known_label((numbers[LABELS + i] % WORDS) as u32) {
-            return false;
-        }
-        i += 1;
-    }
-    true
+    numbers[LABELS..LABELS + count]
+        .iter()
+        .all(|number| known_label((number % WORDS) as u32))
 }
 
 fn labels_sound(numbers: &[u64]) -> bool
@@ -38,18 +34,15 @@ fn labels_sound(numbers: &[u64]) -> bool
     ensures { result ≡ labels_sound (at numbers.now 11) (labels_in numbers.now) }
 {
     let count = number_at(numbers, LABEL_COUNT) as usize;
-    if LABEL_PLACES < count {
-        return false;
-    }
-    labels_known(numbers, count)
+    count <= LABEL_PLACES && labels_known(numbers, count)
 }
 
+#[tactic(auto, using(crate::proofs::Records::record_parts))]
 fn layout_sound(numbers: &[u64]) -> bool
     requires { is_record numbers.now ≡ true }
     ensures { result ≡ layout_sound_as (layout_of (at numbers.now 9) (at numbers.now 10)) (at numbers.now 11) (labels_in numbers.now) }
 {
-    let layout = layout_of(numbers);
-    match layout {
+    match layout_of(numbers) {
         ChannelLayout::NoLayout => true,
         ChannelLayout::Tagged(tag) => known_tag(tag),
         ChannelLayout::Described => labels_sound(numbers),
@@ -57,6 +50,7 @@ fn layout_sound(numbers: &[u64]) -> bool
 }
 
 // Over a buffer of `room` bytes. An array that stands for no record is not sound.
+#[tactic(auto, using(crate::proofs::Records::record_parts), unfolding(crate::specs::RecordSound::sound_in, writer::specs::Sound::sound, writer::specs::Sound::sound_alone, writer::specs::Sound::places_sound, writer::specs::Sound::format_sound, writer::specs::Sound::layout_sound, crate::specs::RecordNumbers::record_of))]
 fn record_sound(numbers: &[u64], room: usize) -> bool
     ensures { result ≡ sound_in numbers.now room }
 {
@@ -64,12 +58,6 @@ fn record_sound(numbers: &[u64], room: usize) -> bool
         return false;
     }
     let file_len = number_at(numbers, FILE_LEN) as usize;
-    if room < file_len {
-        return false;
-    }
-    if FILE_MAX < file_len {
-        return false;
-    }
     let places = places_sound(
         number_at(numbers, HAS_HEADER) == 1,
         number_at(numbers, SIZE_POSITION) as usize,
@@ -78,24 +66,18 @@ fn record_sound(numbers: &[u64], room: usize) -> bool
         number_at(numbers, DATA_COUNT) as usize,
         number_at(numbers, FINISHED) == 1,
     );
-    if !places {
-        return false;
-    }
-    let format = format_of(numbers);
-    let endianness = order_of(number_at(numbers, ENDIANNESS));
-    if !format_sound(format, endianness) {
-        return false;
-    }
-    layout_sound(numbers)
+    file_len <= room
+        && file_len <= FILE_MAX
+        && places
+        && format_sound(format_of(numbers), order_of(number_at(numbers, ENDIANNESS)))
+        && layout_sound(numbers)
 }
 
 // The length is tested first, so that a compiler knows it at every place that is looked at. Then the whole is handed on as a part of itself:
 // a slice that is handed on as it came is kept in memory, by two stores that one load follows, and a processor waits for them.
+#[tactic(auto, unfolding(crate::specs::RecordSound::sound_in, crate::specs::RecordNumbers::is_record))]
 pub fn sound_in(numbers: &[u64], room: usize) -> bool
     ensures { result ≡ sound_in numbers.now room }
 {
-    if numbers.len() != RECORD {
-        return false;
-    }
-    record_sound(&numbers[..RECORD], room)
+    numbers.len() == RECORD && record_sound(&numbers[..RECORD], room)
 }

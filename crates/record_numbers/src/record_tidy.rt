@@ -10,8 +10,7 @@ fn no_format(numbers: &mut [u64])
     ensures { numbers.new ≡ no_format numbers.old }
 {
     if number_at(numbers, HAS_FORMAT) == 0 {
-        let zeros = [0u64; 8];
-        put(numbers, HAS_FORMAT, &zeros);
+        put(numbers, HAS_FORMAT, &[0; 8]);
     }
 }
 
@@ -19,11 +18,11 @@ fn no_tag(numbers: &mut [u64])
     ensures { numbers.new ≡ no_tag numbers.old }
 {
     if number_at(numbers, LAYOUT_KIND) != TAGGED {
-        let none = [NO_TAG];
-        put(numbers, LAYOUT_TAG, &none);
+        put(numbers, LAYOUT_TAG, &[NO_TAG]);
     }
 }
 
+#[tactic(auto, unfolding(crate::specs::RecordTidy::tidied))]
 pub fn tidy(numbers: &mut [u64])
     ensures { numbers.new ≡ tidied numbers.old }
 {

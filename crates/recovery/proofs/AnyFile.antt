@@ -1,4 +1,5 @@
 -- What is appended to a file that was resumed goes by its own `desc`.
+use Rattle.std.proofs.Common.{Option, Some, None}
 use mathlib.Core.Path.{◌≡◌, refl, sym, ◌∙◌, ap}
 use mathlib.Core.List.{List, ◌++◌, append_assoc}
 use Prim.Native.Nat.{ℕ, ◌+◌, ◌≤◌}
@@ -10,8 +11,6 @@ use Rattle.byte_order.specs.Splice.{splice}
 use Rattle.byte_order.proofs.Laws.{length-splice}
 use Rattle.format.specs.Flags.{endianness_of, endianness_for}
 use Rattle.format.specs.declared.AudioFormat.{AudioFormat}
-use Rattle.format.specs.declared.MaybeFormat.{MaybeFormat}
-use Rattle.format.specs.declared.MaybeFormat.TheVariants.{Absent, Present}
 use Rattle.format.specs.declared.Endianness.{Endianness}
 use Rattle.pcm.specs.Packing.{packed}
 use Rattle.pcm.specs.Unpacking.{unpacked}
@@ -19,7 +18,7 @@ use Rattle.pcm.proofs.Packed.{length-packed}
 use Rattle.pcm.proofs.RoundTrip.{round-trip-any}
 use Rattle.reading.specs.Plain.{plain}
 use Rattle.reading.specs.declared.CAFFileInfo.{CAFFileInfo}
-use Rattle.reading.specs.declared.PlainAnswer.TheVariants.{Found}
+use Rattle.reading.specs.Shapes.{Found}
 use Rattle.writer.specs.Outcome.{Outcome, buffer_after}
 use Rattle.writer.specs.Resume.{resumed, open_field, resume_call}
 use Rattle.writer.specs.declared.CAFWriter.{CAFWriter}
@@ -90,12 +89,12 @@ module _ (s t u : Session) (bs : List ℕ) (appended : file_now t ≡ file_now s
       ∙ ap (take (length bs)) (drop_at old (bs ++ p.more) (length old) refl)
       ∙ take_at bs p.more (length bs) refl
 
-same_format : (m : MaybeFormat) (f g : AudioFormat) → m ≡ Present f → m ≡ Present g → f ≡ g
+same_format : (m : Option AudioFormat) (f g : AudioFormat) → m ≡ Some f → m ≡ Some g → f ≡ g
 same_format m f g p q = ap held (sym p ∙ q)
   where
-    held : MaybeFormat → AudioFormat
-    held (Present x) = x
-    held Absent = f
+    held : Option AudioFormat → AudioFormat
+    held (Some x) = x
+    held None = f
 
 pub appends-in-order : AppendsInOrder
 appends-in-order buffer len before xs after h a =
@@ -112,7 +111,7 @@ appends-in-order buffer len before xs after h a =
     let is = present w.format ok.present in
     let f = is.0 in
     let said : said_by w ≡ b.info = p.said ∙ b.said in
-    let described : b.info.format ≡ Present f = ap (λ (i : CAFFileInfo). i.format) (sym said) ∙ is.1 in
+    let described : b.info.format ≡ Some f = ap (λ (i : CAFFileInfo). i.format) (sym said) ∙ is.1 in
     let order : w.endianness ≡ endianness_of f = order_is w alone.format ∙ ap endianness_for is.1 in
     let packs : packed w.endianness xs ≡ packed (endianness_of f) xs = ap (λ (e : Endianness). packed e xs) order in
     let long : length (file_now s) ≡ w.file_len = length-take-le w.file_len s.buffer p.goes.in-room in

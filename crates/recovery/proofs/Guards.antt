@@ -14,7 +14,7 @@ use Rattle.format.specs.Packet.{frames_of}
 use Rattle.reading.specs.Answers.{strict_number}
 use Rattle.reading.specs.Strict.{strict}
 use Rattle.reading.specs.declared.StrictInfo.{StrictInfo}
-use Rattle.reading.specs.declared.StrictAnswer.TheVariants.{Accepted, Rejected}
+use Rattle.reading.specs.Shapes.{Accepted, Rejected}
 use Rattle.writer.specs.Header.{header_bytes_of}
 use Rattle.writer.specs.declared.CAFWriter.{CAFWriter}
 use Rattle.recovery.specs.Calls.{Call, set, header, bytes, samples, finish, lend, Writes}

@@ -1,11 +1,10 @@
 -- 02, T-13: what is appended to a file goes by its own `desc`. Samples speaks of files that a fresh writer began, and none of these is
 -- little-endian any longer (kept/specs/Big); this is of every file that a resume accepts, whoever wrote it.
-use Rattle.std.specs.Prelude.{ℕ, ◌*◌, ◌≤◌, ◌≡◌, Bool, true, false, List, [], ◌∷◌, ◌++◌, length, take, drop, eqb, ℤ, pos, negsuc}
+use Rattle.std.specs.Prelude.{ℕ, ◌*◌, ◌≤◌, ◌≡◌, Bool, true, false, List, [], ◌∷◌, ◌++◌, length, take, drop, eqb, ℤ, pos, negsuc, Some}
 use Rattle.answers.specs.Numbers.{done}
 use Rattle.byte_order.specs.Same.{exactly}
 use Rattle.format.specs.Flags.{endianness_of}
 use Rattle.format.specs.declared.AudioFormat.{AudioFormat}
-use Rattle.format.specs.declared.MaybeFormat.TheVariants.{Present}
 use Rattle.format.specs.declared.PCMDataType.TheVariants.{SignedInteger}
 use Rattle.format.specs.declared.Endianness.TheVariants.{BigEndian}
 use Rattle.pcm.specs.Packing.{sample_size, packed}
@@ -15,8 +14,7 @@ use Rattle.reading.specs.Plain.{plain}
 use Rattle.reading.specs.Strict.{strict}
 use Rattle.reading.specs.declared.CAFFileInfo.{CAFFileInfo}
 use Rattle.reading.specs.declared.StrictInfo.{StrictInfo}
-use Rattle.reading.specs.declared.PlainAnswer.TheVariants.{Found}
-use Rattle.reading.specs.declared.StrictAnswer.TheVariants.{Accepted}
+use Rattle.reading.specs.Shapes.{Found, Accepted}
 use Rattle.writer.specs.Record.{fresh}
 use Rattle.writer.specs.Resume.{resume_call}
 use Rattle.recovery.specs.Calls.{Call, set, format, configure, header, bytes, samples, finish}
@@ -40,7 +38,7 @@ pub record InItsOrder (file : List ℕ) (before : Session) (xs : List ℤ) (now 
   pub chunks : ℕ
   pub format : AudioFormat
   pub found : plain file ≡ Found info chunks
-  pub described : info.format ≡ Present format
+  pub described : info.format ≡ Some format
   -- the call puts the samples at the end of the file, packed in the byte order that the flags of that format give
   pub appended : file_of (resting (do_call before (samples xs))) ≡ file_of (resting before) ++ packed (endianness_of format) xs
   -- all audio that the file had stays, and what arrived follows it

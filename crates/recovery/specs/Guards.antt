@@ -13,7 +13,7 @@ use Rattle.reading.specs.Claims.{Bytes}
 use Rattle.reading.specs.Plain.{plain}
 use Rattle.reading.specs.Strict.{strict}
 use Rattle.reading.specs.declared.StrictInfo.{StrictInfo}
-use Rattle.reading.specs.declared.StrictAnswer.TheVariants.{Accepted, Rejected}
+use Rattle.reading.specs.Shapes.{Accepted, Rejected}
 use Rattle.writer.specs.Header.{header_bytes_of}
 use Rattle.recovery.specs.Calls.{Call, set, format, tag, labels, configure, group, header, bytes, samples, finish, lend, Numbers32, TypedCall, TypedCalls}
 use Rattle.recovery.specs.Session.{Session, is_accepted}

@@ -1,10 +1,9 @@
 -- 02, T-03: our writer's `chan` is read as the layout that was set, unless BadLayout applies. Of the file of every session, and of what is
 -- recovered after any number of them were cut.
-use Rattle.std.specs.Prelude.{ℕ, ◌≡◌, true}
+use Rattle.format.specs.declared.AudioFormat.{AudioFormat}
+use Rattle.std.specs.Prelude.{ℕ, ◌≡◌, true, Option, Some, None}
 use mathlib.Core.List.{List, [], flatten}
-use Rattle.std.proofs.Math.Option.{Option, none, some}
-use Rattle.format.specs.declared.MaybeFormat.{MaybeFormat}
-use Rattle.format.specs.declared.MaybeFormat.TheVariants.{Absent, Present}
+use Rattle.std.proofs.Math.Option.{Option as MathOption, none, some}
 use Rattle.layout.specs.Chan.{chan_body}
 use Rattle.layout.specs.Tags as tag
 use Rattle.layout.specs.declared.ChannelLayout.{ChannelLayout}
@@ -22,7 +21,7 @@ use Rattle.recovery.specs.Sessions.{CutSession, TypedSessions, remaining_after, 
 use Rattle.recovery.specs.Demand.{IsWhole, recovered_file}
 
 -- the body of a `chan` that a layout is written as, with the labels beside it
-abbrev pub body_of : ChannelLayout → List ℕ → Option (List ℕ)
+abbrev pub body_of : ChannelLayout → List ℕ → MathOption (List ℕ)
 body_of NoLayout ls = none
 body_of (Tagged t) ls = some (chan_body t [])
 body_of Described ls = some (chan_body tag.UseChannelDescriptions ls)
@@ -42,9 +41,9 @@ pub record SaysLayout (file : List ℕ) (layout : ChannelLayout) (ls : List ℕ)
   pub read : (room : ℕ) → ReadAs layout ls channels room
 
 -- the channels that `desc` says
-abbrev pub channels_in : MaybeFormat → ℕ
-channels_in Absent = 0
-channels_in (Present f) = f.channels_per_frame
+abbrev pub channels_in : Option AudioFormat → ℕ
+channels_in None = 0
+channels_in (Some f) = f.channels_per_frame
 
 -- the layout and the channels of a record
 abbrev pub SaysLayoutOf : CAFWriter → List ℕ → Type 0

@@ -1,13 +1,12 @@
 -- 01's limits, each from both sides, and its sentence on soundness clause by clause, as one table of tests. The numbers are written out, so
 -- that a limit which is changed in a definition and in the code alike is not so here. The theorem `limits` of proofs/ says that all hold.
-use Rattle.std.specs.Prelude.{ℕ, Bool, true, false, not, List, [], ◌∷◌, ◌++◌, replicate, take, eqb}
+use Rattle.std.specs.Prelude.{ℕ, Bool, true, false, not, List, [], ◌∷◌, ◌++◌, replicate, take, eqb, None}
 use Rattle.byte_order.specs.Big.{big_bytes}
 use Rattle.byte_order.specs.Same.{exactly}
 use Rattle.byte_order.specs.Rate.{rate_of}
 use Rattle.format.specs.Desc.{desc_body}
 use Rattle.format.specs.Setting.{pcm_format}
 use Rattle.format.specs.declared.AudioFormat.{AudioFormat}
-use Rattle.format.specs.declared.MaybeFormat.TheVariants.{Absent}
 use Rattle.format.specs.declared.PCMDataType.TheVariants.{SignedInteger}
 use Rattle.format.specs.declared.Endianness.{Endianness}
 use Rattle.format.specs.declared.Endianness.TheVariants.{BigEndian, LittleEndian}
@@ -30,7 +29,7 @@ use Rattle.recovery.specs.Figures.{rate48000, is_closed_with}
 abbrev pub placed : Bool → ℕ → ℕ → ℕ → ℕ → CAFWriter
 placed headed position start len count =
     record {
-      format = Absent;
+      format = None;
       endianness = BigEndian;
       layout = NoLayout;
       labels = padded [];

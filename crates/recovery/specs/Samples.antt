@@ -6,7 +6,7 @@ use Rattle.pcm.specs.Unpacking.{unpacked}
 use Rattle.pcm.specs.RoundTrip.{kept24}
 use Rattle.reading.specs.Strict.{strict}
 use Rattle.reading.specs.declared.StrictInfo.{StrictInfo}
-use Rattle.reading.specs.declared.StrictAnswer.TheVariants.{Accepted}
+use Rattle.reading.specs.Shapes.{Accepted}
 use Rattle.kept.specs.Settled.{Settled}
 use Rattle.recovery.specs.Calls.{Call, samples, TypedCalls}
 use Rattle.recovery.specs.Session.{Session, is_accepted, do_call, run}

@@ -1,10 +1,8 @@
--- Laws of tests: what a chain of refusals and a conjunction tell, and a sum that is too large.
-use mathlib.Core.Path.{◌≡◌, refl, sym}
+-- Laws of tests: what a chain of refusals and a conjunction tell.
+use mathlib.Core.Path.{◌≡◌, refl}
 use mathlib.Core.Bool.{Bool, true, false, cond, ◌&&◌, ◌||◌, true≢false}
-use Prim.Native.Nat.{ℕ, ◌+◌, ◌-◌, ◌≤◌, ◌<◌}
+use Prim.Native.Nat.{ℕ, ◌<◌}
 use native.Mathlib.Omega.{arith}
-use lib.Dec.{ltb}
-use borrow.Author.Tests.{ltb-true, ltb-false, lt-ltb, le-ltb}
 
 pub two : (a b : Bool) → a && b ≡ true → (a ≡ true) × (b ≡ true)
 two true b h = (refl, h)
@@ -33,16 +31,3 @@ neither false b h = (refl, h)
 pub pass : (b : Bool) (k m : ℕ) → 0 < k → cond b k m ≡ 0 → (b ≡ false) × (m ≡ 0)
 pass true k m p h = absurd (let z : ⊥ = omega arith in z)
 pass false k m p h = (refl, h)
-
--- one test that fails makes a conjunction fail
-pub second-fails : (a b c d : Bool) → b ≡ false → a && b && c && d ≡ false
-second-fails true b c d p = rw p
-second-fails false b c d p = refl
-
--- a sum that is too large, told without it
-pub by-what-is-left : (most l n : ℕ) → n ≤ most → ltb (most - n) l ≡ ltb most (l + n)
-by-what-is-left most l n h = go (ltb (most - n) l) refl
-  where
-    go : (b : Bool) → ltb (most - n) l ≡ b → b ≡ ltb most (l + n)
-    go true e = let z = ltb-true (most - n) l e in sym (lt-ltb most (l + n) (omega arith))
-    go false e = let z = ltb-false (most - n) l e in sym (le-ltb most (l + n) (omega arith))

@@ -1,16 +1,15 @@
 -- 01, Numbers given back: which number refuses a call, from what it asks of its record. room is the length of the lent buffer.
-use Rattle.std.specs.Prelude.{ℕ, ◌+◌, Bool, true, false, cond, not, ◌||◌, ltb}
+use Rattle.format.specs.declared.AudioFormat.{AudioFormat}
+use Rattle.std.specs.Prelude.{ℕ, ◌+◌, Bool, true, false, cond, not, ◌||◌, ltb, Option, Some, None}
 use Rattle.answers.specs.Numbers.{done, bad_writer, finished, no_header, no_format, no_room_left, file_max}
-use Rattle.format.specs.declared.MaybeFormat.{MaybeFormat}
-use Rattle.format.specs.declared.MaybeFormat.TheVariants.{Absent, Present}
 
 -- NoRoom: the file would be longer than the buffer, or longer than any file may be
 abbrev pub exceeds : ℕ → ℕ → Bool
 exceeds len room = ltb room len || ltb file_max len
 
-abbrev pub is_absent : MaybeFormat → Bool
-is_absent Absent = true
-is_absent (Present f) = false
+abbrev pub is_absent : Option AudioFormat → Bool
+is_absent None = true
+is_absent (Some f) = false
 
 -- a data call of n bytes, by the order for writing: 19, 10, 11, 14
 abbrev pub data_number_as : (sound isFinished hasHeader : Bool) (fileLen room n : ℕ) → ℕ

@@ -1,10 +1,9 @@
 -- 01, Numbers given back: when a record is sound, by its parts. BadWriter (19) refuses one that is not. Parts that are absent are not tested.
-use Rattle.std.specs.Prelude.{ℕ, ◌+◌, ◌-◌, Bool, true, cond, not, ◌&&◌, List, take, leb, eqb}
+use Rattle.std.specs.Prelude.{ℕ, ◌+◌, ◌-◌, Bool, true, cond, not, ◌&&◌, List, take, leb, eqb, Option, Some, None}
 use Rattle.byte_order.specs.Rate.{not_aNumber}
+use Rattle.format.specs.declared.AudioFormat.{AudioFormat}
 use Rattle.format.specs.Flags.{endianness_for, same_order}
 use Rattle.format.specs.declared.Endianness.{Endianness}
-use Rattle.format.specs.declared.MaybeFormat.{MaybeFormat}
-use Rattle.format.specs.declared.MaybeFormat.TheVariants.{Absent, Present}
 use Rattle.layout.specs.Known.{known_tag, are_known}
 use Rattle.layout.specs.Setting.{label_places}
 use Rattle.layout.specs.declared.ChannelLayout.{ChannelLayout}
@@ -26,12 +25,12 @@ places_sound_as hasHeader size_position_of data_start_of fileLen dataCount finis
     cond hasHeader (headed_sound_as size_position_of data_start_of fileLen dataCount) (empty_sound_as fileLen dataCount finished)
 
 -- the rate is not a not-a-number
-abbrev pub rate_sound : MaybeFormat → Bool
-rate_sound Absent = true
-rate_sound (Present f) = not (not_aNumber f.sample_rate)
+abbrev pub rate_sound : Option AudioFormat → Bool
+rate_sound None = true
+rate_sound (Some f) = not (not_aNumber f.sample_rate)
 
 -- the rate, and the byte order, which is the one that the format tells
-abbrev pub format_sound_as : MaybeFormat → Endianness → Bool
+abbrev pub format_sound_as : Option AudioFormat → Endianness → Bool
 format_sound_as format endianness = rate_sound format && same_order endianness (endianness_for format)
 
 -- the count is within the places, and the labels in the first `count` of them are known ones

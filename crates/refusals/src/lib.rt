@@ -2,9 +2,8 @@
 // questions. The definitions stand in specs/.
 #![tactic(auto)]
 
-pub mod numbers;
 pub mod of_format;
 pub mod of_layout;
-pub mod of_reading;
 pub mod places;
 pub mod room;
+pub mod standing;

@@ -9,11 +9,5 @@ use layout::setting::LABEL_PLACES;
 pub fn labels_sound(count: usize, labels: &[u32]) -> bool
     ensures { result ≡ labels_sound count labels.now }
 {
-    if LABEL_PLACES < count {
-        return false;
-    }
-    if labels.len() < count {
-        return all_known(labels);
-    }
-    all_known(&labels[..count])
+    count <= LABEL_PLACES && all_known(&labels[..count.min(labels.len())])
 }

@@ -8,16 +8,10 @@ use reading::sizes::{LEAST_START, SIZE_TO_DATA};
 fn headed_sound(size_position: usize, data_start: usize, file_len: usize, data_count: usize) -> bool
     ensures { result ≡ headed_sound_as size_position data_start file_len data_count }
 {
-    if data_start < LEAST_START {
-        return false;
-    }
-    if data_start - SIZE_TO_DATA != size_position {
-        return false;
-    }
-    if file_len < data_start {
-        return false;
-    }
-    data_count <= file_len - data_start
+    LEAST_START <= data_start
+        && data_start - SIZE_TO_DATA == size_position
+        && data_start <= file_len
+        && data_count <= file_len - data_start
 }
 
 pub fn places_sound(
@@ -33,11 +27,5 @@ pub fn places_sound(
     if has_header {
         return headed_sound(size_position, data_start, file_len, data_count);
     }
-    if file_len != 0 {
-        return false;
-    }
-    if data_count != 0 {
-        return false;
-    }
-    !finished
+    file_len == 0 && data_count == 0 && !finished
 }

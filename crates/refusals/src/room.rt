@@ -8,24 +8,15 @@ use answers::FILE_MAX;
 pub fn is_too_long(len: usize, room: usize) -> bool
     ensures { result ≡ exceeds len room }
 {
-    if room < len {
-        return true;
-    }
-    FILE_MAX < len
+    room < len || FILE_MAX < len
 }
 
-// Whether it would be with n bytes more. By what n leaves: the new length need not fit a usize.
+// Whether it would be with n bytes more. A length that does not fit a usize is longer than any file may be.
 pub fn is_too_long_with(len: usize, n: usize, room: usize) -> bool
     ensures { result ≡ exceeds (len + n) room }
 {
-    if room < n {
-        return true;
+    match len.checked_add(n) {
+        Some(longer) => is_too_long(longer, room),
+        None => true,
     }
-    if room - n < len {
-        return true;
-    }
-    if FILE_MAX < n {
-        return true;
-    }
-    FILE_MAX - n < len
 }

@@ -6,19 +6,19 @@ mod labels;
 mod readings;
 mod samples;
 
-use cases::frame::case_at;
+use cases::tally::tally_of;
 use labels::same_labels;
 use readings::same_reading;
 use samples::same_samples;
-use show::{decimal, fill, newline, word};
+use show::fill;
 use std::io;
 
 // The kinds of case, by their letters.
-const LABELS: u32 = 0x4C;
+const LABELS: u32 = b'L' as u32;
 
-const READING: u32 = 0x52;
+const READING: u32 = b'R' as u32;
 
-const SAMPLES: u32 = 0x53;
+const SAMPLES: u32 = b'S' as u32;
 
 // Of a longer input the first bytes are replayed.
 const MOST: usize = 65_536;
@@ -32,31 +32,8 @@ fn same_case(kind: u32, body: &[u8]) -> bool {
     }
 }
 
-fn replay(rt: &impl Print, s: &[u8]) -> io::Result<()> {
-    let mut same: u64 = 0;
-    let mut different: u64 = 0;
-    let mut at: usize = 0;
-    while at < s.len() {
-        let case = case_at(s, at);
-        let start = case.start;
-        let end = case.end;
-        if same_case(case.kind, &s[start..end]) {
-            same = same.wrapping_add(1);
-        } else {
-            different = different.wrapping_add(1);
-        }
-        at = end;
-    }
-    word(rt, b"the same ")?;
-    decimal(rt, same)?;
-    newline(rt)?;
-    word(rt, b"different ")?;
-    decimal(rt, different)?;
-    newline(rt)
-}
-
 fn main(rt: HostRuntime) -> io::Result<()> {
-    let mut input = [0u8; MOST];
+    let mut input = [0; MOST];
     let n = fill(&rt, &mut input)?;
-    replay(&rt, &input[..n])
+    println!(rt; "{}", tally_of(&input[..n], same_case))
 }

@@ -1,16 +1,12 @@
 // Cases of packing: samples, and the bytes that the Rust made of them.
-use answers::DONE;
-use cases::list::{MOST_SAMPLES, samples_at, starts_with};
+use cases::list::{MOST_SAMPLES, samples_at};
 use cases::number::{byte, count, order};
 use format::Endianness;
 use pcm::packing::pack;
 
 fn same_packed(samples: &[i32], endianness: Endianness, wanted: &[u8]) -> bool {
     let mut out = [0u8; 3 * MOST_SAMPLES];
-    if pack(samples, endianness, &mut out) != DONE {
-        return false;
-    }
-    starts_with(&out, wanted)
+    pack(samples, endianness, &mut out).is_ok() && out.starts_with(wanted)
 }
 
 pub(crate) fn same_samples(body: &[u8]) -> bool {

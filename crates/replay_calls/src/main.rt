@@ -5,42 +5,23 @@
 mod calls;
 mod scripts;
 
-use cases::frame::case_at;
+use cases::tally::tally_of;
 use scripts::same_script;
-use show::{decimal, fill, newline, word};
+use show::fill;
 use std::io;
 
 // The one kind of case, by its letter.
-const SCRIPT: u32 = 0x57;
+const SCRIPT: u32 = b'W' as u32;
 
 // Of a longer input the first bytes are replayed.
 const MOST: usize = 65_536;
 
-fn replay(rt: &impl Print, s: &[u8]) -> io::Result<()> {
-    let mut same: u64 = 0;
-    let mut different: u64 = 0;
-    let mut at: usize = 0;
-    while at < s.len() {
-        let case = case_at(s, at);
-        let start = case.start;
-        let end = case.end;
-        if case.kind == SCRIPT && same_script(&s[start..end]) {
-            same = same.wrapping_add(1);
-        } else {
-            different = different.wrapping_add(1);
-        }
-        at = end;
-    }
-    word(rt, b"the same ")?;
-    decimal(rt, same)?;
-    newline(rt)?;
-    word(rt, b"different ")?;
-    decimal(rt, different)?;
-    newline(rt)
-}
-
 fn main(rt: HostRuntime) -> io::Result<()> {
-    let mut input = [0u8; MOST];
+    let mut input = [0; MOST];
     let n = fill(&rt, &mut input)?;
-    replay(&rt, &input[..n])
+    let tally = tally_of(
+        &input[..n],
+        |kind, body| kind == SCRIPT && same_script(body),
+    );
+    println!(rt; "{tally}")
 }

@@ -1,7 +1,6 @@
 // Cases of writing: a script of calls on one writer, the answer of each, and the file that they leave.
 use crate::calls::{Done, call};
-use cases::list::starts_with;
-use cases::number::{byte, count, plus};
+use cases::number::{byte, count};
 use cases::script::end_of;
 use writer::CAFWriter;
 
@@ -11,50 +10,38 @@ const ROOM: usize = 2048;
 // An answer is number, count, data count, finished, file length.
 const ANSWER: usize = 14;
 
-fn same_flag(wanted: u32, on: bool) -> bool {
-    if on {
-        return wanted == 1;
-    }
-    wanted == 0
-}
-
 fn same_answer(s: &[u8], p: usize, done: Done) -> bool {
     let stats = done.writer.stats();
     byte(s, p) == done.number
-        && count(s, plus(p, 1)) == done.count
-        && count(s, plus(p, 5)) == stats.data_count
-        && same_flag(byte(s, plus(p, 9)), stats.finished)
-        && count(s, plus(p, 10)) == done.file_len
+        && count(s, p.saturating_add(1)) == done.count
+        && count(s, p.saturating_add(5)) == stats.data_count
+        && byte(s, p.saturating_add(9)) == u32::from(stats.finished)
+        && count(s, p.saturating_add(10)) == done.file_len
 }
 
 // The rest of the case is the file.
 fn same_file(s: &[u8], p: usize, buf: &[u8], file_len: usize) -> bool {
-    if s.len() < p {
-        return false;
+    match s.get(p..) {
+        Some(file) => file.len() == file_len && buf.starts_with(file),
+        None => false,
     }
-    if s.len() - p != file_len {
-        return false;
-    }
-    starts_with(buf, &s[p..])
 }
 
 pub(crate) fn same_script(body: &[u8]) -> bool {
     let calls = count(body, 0);
-    let mut buf = [0u8; ROOM];
+    let mut buf = [0; ROOM];
     let mut writer = CAFWriter::new();
-    let mut file_len: usize = 0;
-    let mut p: usize = 4;
-    let mut i: usize = 0;
-    while i < calls {
+    let mut file_len = 0;
+    let mut p = 4;
+    for _ in 0..calls {
         let done = call(body, p, writer, file_len, &mut buf);
         p = end_of(body, p);
         if !same_answer(body, p, done) {
             return false;
         }
-        p = plus(p, ANSWER);
+        p = p.saturating_add(ANSWER);
         writer = done.writer;
         file_len = done.file_len;
-        i += 1;
     }
     same_file(body, p, &buf, file_len)
 }

@@ -3,7 +3,7 @@
 // promised here is safety and an end. A call that fails is the caller's to pass on.
 #![tactic(auto)]
 
-ghost use Rattle.std.specs.Prelude.{◌≡◌, ◌≤◌, nat_abs, length, IfOk};
+ghost use Rattle.std.specs.Prelude.{◌≤◌, length, IfOk};
 
 use std::io;
 use std::io::Read;
@@ -13,7 +13,7 @@ pub fn word(rt: &impl Print, text: &[u8]) -> io::Result<()> {
 }
 
 pub fn newline(rt: &impl Print) -> io::Result<()> {
-    word(rt, b"\n")
+    println!(rt)
 }
 
 // The fewest decimal digits that hold v.
@@ -26,36 +26,17 @@ pub fn hex64(rt: &impl Print, v: u64) -> io::Result<()> {
     print!(rt; "{v:016x}")
 }
 
-// A byte as two hexadecimal digits.
-fn hex_byte(rt: &impl Print, b: u8) -> io::Result<()> {
-    print!(rt; "{b:02x}")
-}
-
 // Each byte as two hexadecimal digits, with a blank before it.
 pub fn hex(rt: &impl Print, bytes: &[u8]) -> io::Result<()> {
     for b in bytes {
-        word(rt, b" ")?;
-        hex_byte(rt, *b)?;
+        print!(rt; " {b:02x}")?;
     }
     Ok(())
 }
 
-// v without its sign.
-fn magnitude(v: i32) -> u64
-    ensures { result ≡ nat_abs v }
-{
-    let y = v as i64;
-    if y < 0 {
-        return (0 - y) as u64;
-    }
-    y as u64
-}
-
+// A minus where v is below 0, and the fewest decimal digits.
 pub fn signed(rt: &impl Print, v: i32) -> io::Result<()> {
-    if v < 0 {
-        word(rt, b"-")?;
-    }
-    decimal(rt, magnitude(v))
+    rt.print(v)
 }
 
 // Reads standard input until the buffer is full or the input ends, and returns how many bytes came.

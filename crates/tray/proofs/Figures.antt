@@ -1,7 +1,6 @@
 -- The figures of the small tray hold: computed, but for the one that takes any bytes.
-use mathlib.Core.Path.{◌≡◌, refl, sym}
-use mathlib.Core.List.{List, ◌∷◌}
-use Prim.Native.Nat.{ℕ}
+use mathlib.Core.Path.{refl, sym}
+use mathlib.Core.List.{◌∷◌}
 use native.Mathlib.Omega.{arith}
 use lib.Ieee.{of_bits, to_bits, is_nan, of_fields, odd, span, climb, size}
 use Rattle.format.specs.Desc.{format_at}
@@ -27,7 +26,7 @@ tray-figures =
       cut-table = refl;
       cut-count = refl;
       none = refl;
-      too_many = λ rest room. sym (many (0 ∷ 0 ∷ 16 ∷ 1 ∷ rest) room (omega arith) refl (omega arith));
+      too_many = λ rest room. sym (many (0 ∷ 0 ∷ 16 ∷ 1 ∷ rest) room (omega arith) (omega arith));
       made = refl;
       no_place = refl;
       other-sum = refl;

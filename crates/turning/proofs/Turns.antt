@@ -1,18 +1,19 @@
 -- A turn: samples that are unpacked into numbers and packed from them are put turned.
-use mathlib.Core.Path.{◌≡◌, refl, sym, ap, ◌∙◌}
+use mathlib.Core.Path.{◌≡◌, sym, ap, ◌∙◌}
 use mathlib.Core.List.{List, [], ◌∷◌, ◌++◌}
 use Prim.Native.Nat.{ℕ, zero, suc, min, ◌+◌, ◌*◌, ◌/◌, ◌%◌, ◌<◌, ◌≤◌}
 use native.Mathlib.Omega.{arith}
 use lib.IntN.{ℤ}
 use lib.ListN.{length, take, drop, get_or, length-take}
-use lib.Seq.{take_all, take_at, take-add, length-take-le}
+use Rattle.std.proofs.lemmas.List.{drop-drop}
+use lib.Seq.{take_all, take_at, take-add, length-take-le, take-append_seam, drop-append_seam}
 use borrow.Author.Tests.{eq-eqb, le-ltb, le-leb}
 use Rattle.byte_order.specs.Splice.{splice, store_first}
-use Rattle.byte_order.proofs.Laws.{more, length-splice}
+use Rattle.byte_order.proofs.Laws.{more}
 use Rattle.format.specs.declared.Endianness.TheVariants.{BigEndian, LittleEndian}
 use Rattle.pcm.specs.Packing.{sample_size, packed}
-use Rattle.pcm.specs.Unpacking.{unpacked, unpack_number, unpack_into}
-use Rattle.pcm.proofs.Packed.{length-packed, take-packed}
+use Rattle.pcm.specs.Unpacking.{unpacked, unpack_into}
+use Rattle.pcm.proofs.Packed.{take-packed}
 use Rattle.pcm.proofs.Unpacked.{length-unpacked}
 use Rattle.turning.specs.Turned.{turned}
 use Rattle.turning.specs.Claims.{Bytes}
@@ -83,3 +84,7 @@ next-turn s p n at start out last within h k room before put =
     let lb : length (turned b) ≤ n = simp (length-turned, length-take) (omega arith) in
     more start at p (turned a) (turned b) before put la (omega (arith, lb))
     ∙ ap (λ (l : List ℕ). splice start at l) (sym (turned-append a b (rw (length-take-le p s (omega arith)) h)) ∙ ap turned (sym (take-add p n s)))
+
+-- a block that is cut off the front of what is left
+pub block_of : (s b rest : List ℕ) (p : ℕ) → drop p s ≡ b ++ rest → (b ≡ take (length b) (drop p s)) × (rest ≡ drop (p + length b) s)
+block_of s b rest p cut = (rw cut (sym (take-append_seam b rest)), rw (← drop-drop, cut) (sym (drop-append_seam b rest)))

@@ -1,5 +1,5 @@
 -- The figures hold: computed.
-use mathlib.Core.Path.{◌≡◌, refl}
+use mathlib.Core.Path.{refl}
 use lib.Ieee.{of_bits, of_fields, odd, span, climb, size}
 use Rattle.format.specs.Wide.{is_wide}
 use Rattle.wave.specs.Head.{fmt_chunk, opening_as, head_as, wave_file}

@@ -12,7 +12,6 @@ use Rattle.format.specs.declared.AudioFormat.{AudioFormat}
 use Rattle.wave.specs.Rate.{whole_rate}
 use Rattle.wave.specs.Mask.{label_max, ascends_from, can_carry}
 use Rattle.wave.specs.Making.{wave_of, wave_fields_fit, making_number}
-use Rattle.wave.specs.Table
 use Rattle.wave.specs.Table.{Whole, Ascends, Sayable, HeadGives}
 use Rattle.wave.specs.Claims.{HeadExactly}
 use Rattle.wave.proofs.Joined.{left-of, right_of, untrue}

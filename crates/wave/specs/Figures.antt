@@ -1,7 +1,7 @@
 -- 02, T-11: headers, refusals and readings by numbers, at both sides of every limit. Bytes and numbers are written out, so that a field, a width,
 -- a limit or an order that is changed in every definition alike is not so here. No file of such a size is needed. The theorem `wave-figures`
 -- of proofs/ says that all hold.
-use Rattle.std.specs.Prelude.{ℕ, ◌+◌, ◌*◌, ◌^◌, ◌≡◌, List, [], ◌∷◌, ◌++◌, take, drop}
+use Rattle.std.specs.Prelude.{ℕ, ◌+◌, ◌*◌, ◌^◌, ◌≡◌, List, [], ◌∷◌, ◌++◌, take, drop, Some, None}
 use Rattle.byte_order.specs.Rate.{rate_of}
 use Rattle.format.specs.declared.AudioFormat.{AudioFormat}
 use Rattle.wave.specs.Rate.{whole_rate}
@@ -11,7 +11,6 @@ use Rattle.wave.specs.Making.{making_number}
 use Rattle.wave.specs.Reader.{wave_read}
 use Rattle.wave.specs.declared.Wave.{Wave}
 use Rattle.wave.specs.declared.Kind.TheVariants.{Riff, Rf64}
-use Rattle.wave.specs.declared.WaveRead.TheVariants.{Read, NotRead}
 
 abbrev pub stereo : ℕ → Wave
 stereo payload = record { rate = 48000; channels = 2; mask = 3; payload = payload }
@@ -130,12 +129,12 @@ tiny mask last =
 
 -- it is read; another pad byte, none, a byte after it, two bits for one channel, and no byte at all are not
 pub record ReadFigures : Type 0 where
-  pub read : wave_read (tiny 4 0) ≡ Read (mono 3) 68
-  pub pad : wave_read (tiny 4 1) ≡ NotRead
-  pub no-pad : wave_read (take 71 (tiny 4 0)) ≡ NotRead
-  pub more : wave_read (tiny 4 0 ++ (0 ∷ [])) ≡ NotRead
-  pub two-bits : wave_read (tiny 3 0) ≡ NotRead
-  pub nothing : wave_read [] ≡ NotRead
+  pub read : wave_read (tiny 4 0) ≡ Some (mono 3, 68)
+  pub pad : wave_read (tiny 4 1) ≡ None
+  pub no-pad : wave_read (take 71 (tiny 4 0)) ≡ None
+  pub more : wave_read (tiny 4 0 ++ (0 ∷ [])) ≡ None
+  pub two-bits : wave_read (tiny 3 0) ≡ None
+  pub nothing : wave_read [] ≡ None
 
 pub record WaveFigures : Type 0 where
   pub heads : HeadFigures

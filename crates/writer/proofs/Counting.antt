@@ -15,7 +15,7 @@ use Rattle.writer.specs.Outcome.{Outcome, stores, unchanged, unless_refused, cut
 use Rattle.writer.specs.Record.{as_finished}
 use Rattle.writer.specs.Finish.{finish_number, final_size, finish_call}
 use Rattle.writer.specs.declared.CAFWriter.{CAFWriter}
-use Rattle.writer.specs.declared.Counted.{Counted}
+use Rattle.writer.specs.Shapes.{Counted}
 use Rattle.writer.proofs.Tests.{accepted, refused}
 
 pub cut-whole : (n : ℕ) (o : Outcome) → length o.bytes ≤ n → cut n o ≡ o

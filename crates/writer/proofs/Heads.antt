@@ -1,4 +1,5 @@
 -- The header of a record: what a sound record says of it, and a slice that it stands in.
+use Rattle.std.proofs.Common.{Option, Some, None}
 use mathlib.Core.Path.{◌≡◌, refl, sym, ◌∙◌, ap}
 use mathlib.Core.Bool.{true, false}
 use mathlib.Core.List.{List}
@@ -13,8 +14,6 @@ use Rattle.byte_order.proofs.Laws.{length-splice}
 use Rattle.byte_order.proofs.Places.{values-there}
 use Rattle.format.specs.Flags.{endianness_for, same_order}
 use Rattle.format.specs.declared.AudioFormat.{AudioFormat}
-use Rattle.format.specs.declared.MaybeFormat.{MaybeFormat}
-use Rattle.format.specs.declared.MaybeFormat.TheVariants.{Absent, Present}
 use Rattle.layout.specs.Known.{are_known}
 use Rattle.layout.specs.Setting.{label_places}
 use Rattle.layout.specs.declared.ChannelLayout.{ChannelLayout}
@@ -40,21 +39,21 @@ described-few w s e =
     leb-true w.label_count label_places (two _ (are_known (take w.label_count w.labels)) l).0
 
 -- the rate of a sound record's format is a number
-pub rate-number : (w : CAFWriter) (f : AudioFormat) → w.format ≡ Present f → format_sound w ≡ true → not_aNumber f.sample_rate ≡ false
+pub rate-number : (w : CAFWriter) (f : AudioFormat) → w.format ≡ Some f → format_sound w ≡ true → not_aNumber f.sample_rate ≡ false
 unfolding format_sound
 rate-number w f e h =
     let r = (two (rate_sound w.format) (same_order w.endianness (endianness_for w.format)) h).0 in
     not-true (not_aNumber f.sample_rate) (sym (ap rate_sound e) ∙ r)
 
 -- the header of a record with a format
-pub header_of : (w : CAFWriter) (f : AudioFormat) → w.format ≡ Present f → header_bytes_of w ≡ header_bytes f w.layout (labels_of w)
+pub header_of : (w : CAFWriter) (f : AudioFormat) → w.format ≡ Some f → header_bytes_of w ≡ header_bytes f w.layout (labels_of w)
 unfolding header_bytes_of
-header_of w f e = ap (λ (m : MaybeFormat). header_with m w.layout (labels_of w)) e
+header_of w f e = ap (λ (m : Option AudioFormat). header_with m w.layout (labels_of w)) e
 
 -- a format that is not absent
-pub present : (m : MaybeFormat) → is_absent m ≡ false → (f : AudioFormat) × (m ≡ Present f)
-present Absent e = absurd (true-false e)
-present (Present f) e = (f, refl)
+pub present : (m : Option AudioFormat) → is_absent m ≡ false → (f : AudioFormat) × (m ≡ Some f)
+present None e = absurd (true-false e)
+present (Some f) e = (f, refl)
 
 -- the header is as long as where the data start
 pub header-start : (w : CAFWriter) → is_absent w.format ≡ false → length (header_bytes_of w) ≡ start_of w.layout (labels_of w)

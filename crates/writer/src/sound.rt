@@ -1,7 +1,7 @@
 // When a record is sound, in the order of specs/Sound.antt.
 ghost use Rattle.std.specs.Prelude.{◌≡◌};
 ghost use Rattle.refusals.specs.Sound.{labels_sound};
-ghost use Rattle.writer.specs.Sound.{layout_sound, sound_alone, sound};
+ghost use Rattle.writer.specs.Sound.{layout_sound, sound_alone, sound, standing_of};
 
 use crate::CAFWriter;
 use answers::FILE_MAX;
@@ -10,6 +10,7 @@ use layout::known::known_tag;
 use refusals::of_format::format_sound;
 use refusals::of_layout::labels_sound;
 use refusals::places::places_sound;
+use refusals::standing::Standing;
 
 // Lent from a copy, which only a described layout needs: a record whose field is lent is copied whole.
 fn described_sound(w: CAFWriter) -> bool
@@ -19,11 +20,11 @@ fn described_sound(w: CAFWriter) -> bool
     labels_sound(w.label_count, &labels)
 }
 
+#[tactic(auto, unfolding(crate::specs::Sound::layout_sound))]
 fn layout_sound(w: CAFWriter) -> bool
     ensures { result ≡ layout_sound w }
 {
-    let layout = w.layout;
-    match layout {
+    match w.layout {
         ChannelLayout::NoLayout => true,
         ChannelLayout::Tagged(tag) => known_tag(tag),
         ChannelLayout::Described => described_sound(w),
@@ -32,38 +33,38 @@ fn layout_sound(w: CAFWriter) -> bool
 
 impl CAFWriter {
     // Without a buffer.
+    #[tactic(auto, unfolding(crate::specs::Sound::sound_alone, crate::specs::Sound::places_sound, crate::specs::Sound::format_sound))]
     pub(crate) fn is_sound_alone(self) -> bool
         ensures { result ≡ sound_alone self }
     {
-        if FILE_MAX < self.file_len {
-            return false;
-        }
-        let places = places_sound(
-            self.has_header,
-            self.size_position,
-            self.data_start,
-            self.file_len,
-            self.data_count,
-            self.finished,
-        );
-        if !places {
-            return false;
-        }
-        let format = self.format;
-        let endianness = self.endianness;
-        if !format_sound(format, endianness) {
-            return false;
-        }
-        layout_sound(self)
+        self.file_len <= FILE_MAX
+            && places_sound(
+                self.has_header,
+                self.size_position,
+                self.data_start,
+                self.file_len,
+                self.data_count,
+                self.finished,
+            )
+            && format_sound(self.format, self.endianness)
+            && layout_sound(self)
     }
 
     // Over a buffer of `room` bytes.
+    #[tactic(auto, unfolding(crate::specs::Sound::sound))]
     pub(crate) fn is_sound(self, room: usize) -> bool
         ensures { result ≡ sound self room }
     {
-        if room < self.file_len {
-            return false;
+        self.file_len <= room && self.is_sound_alone()
+    }
+    // What the record says of itself over that buffer.
+    pub(crate) fn standing(self, room: usize) -> Standing
+        ensures { result ≡ standing_of self room }
+    {
+        Standing {
+            sound: self.is_sound(room),
+            finished: self.finished,
+            has_header: self.has_header,
         }
-        self.is_sound_alone()
     }
 }

@@ -3,55 +3,56 @@
 // their contents. Then come 01's bound on labels, bytes per packet as the header has them, and what a header settles.
 #![tactic(auto)]
 
+use answers::refusal::number_of;
 use format::{Endianness, PCMDataType};
 use layout::label::{LEFT, RIGHT};
 use std::io;
-use writer::{CAFWriter, Wrote};
+use writer::record::{handed_back, outcome_of};
+use writer::{CAFWriter, RefusedCall};
 
 const BYTE: u8 = 0xEE;
 
-fn told(rt: &impl Print, call: &[u8], wrote: Wrote) -> io::Result<CAFWriter> {
-    let next = wrote.writer;
-    show::word(rt, call)?;
-    show::word(rt, b" ")?;
-    show::decimal(rt, wrote.number as u64)?;
-    show::word(rt, b", file ")?;
-    show::decimal(rt, next.file_len as u64)?;
-    show::newline(rt)?;
-    Ok(next)
+fn told(
+    rt: &impl Print,
+    call: &str,
+    answer: Result<CAFWriter, RefusedCall>,
+) -> io::Result<CAFWriter> {
+    let writer = handed_back(answer);
+    println!(rt;
+        "{call} {}, file {}",
+        number_of(outcome_of(answer)),
+        writer.file_len
+    )?;
+    Ok(writer)
 }
 
 fn write_example(rt: &impl Print, buf: &mut [u8]) -> io::Result<CAFWriter> {
     let labels = [LEFT, RIGHT];
-    let samples = [1i32, -1i32];
+    let samples = [1, -1];
     let set = told(
         rt,
-        b"configure",
+        "configure",
         CAFWriter::new().configure_audio_format(48000.0, 2, 24, &labels),
     )?;
-    let begun = told(rt, b"header", set.write_header(buf))?;
+    let begun = told(rt, "header", set.write_header(buf))?;
     let grown = told(
         rt,
-        b"samples",
+        "samples",
         begun.write_pcm_24bit_as_packed(buf, &samples),
     )?;
-    told(rt, b"finish", grown.finish(buf))
+    told(rt, "finish", grown.finish(buf))
 }
 
-fn part(rt: &impl Print, name: &[u8], bytes: &[u8]) -> io::Result<()> {
-    show::word(rt, name)?;
+fn part(rt: &impl Print, name: &str, bytes: &[u8]) -> io::Result<()> {
+    print!(rt; "{name}")?;
     show::hex(rt, bytes)?;
-    show::newline(rt)
+    println!(rt)
 }
 
 // As many labels as channels.
 fn labels(rt: &impl Print, labels: &[u32], channels: u32) -> io::Result<()> {
-    show::word(rt, b"labels ")?;
-    show::decimal(rt, channels as u64)?;
-    show::word(rt, b": ")?;
-    let wrote = CAFWriter::new().set_channel_layout_for_labels(labels, channels);
-    show::decimal(rt, wrote.number as u64)?;
-    show::newline(rt)
+    let set = CAFWriter::new().set_channel_layout_for_labels(labels, channels);
+    println!(rt; "labels {channels}: {}", number_of(outcome_of(set)))
 }
 
 // The four bytes in the header: bits that fill no byte take one more. A refused format leaves no header, and the buffer as it was.
@@ -64,16 +65,12 @@ fn packet(rt: &impl Print, bits: u32, channels: u32) -> io::Result<()> {
         PCMDataType::SignedInteger,
         Endianness::BigEndian,
     );
-    let number = set.number;
-    let ready = set.writer;
-    ready.write_header(&mut buf);
-    show::word(rt, b"bits ")?;
-    show::decimal(rt, bits as u64)?;
-    show::word(rt, b" channels ")?;
-    show::decimal(rt, channels as u64)?;
-    show::word(rt, b": ")?;
-    show::decimal(rt, number as u64)?;
-    part(rt, b", packet", &buf[36..40])
+    let _ = handed_back(set).write_header(&mut buf);
+    print!(rt;
+        "bits {bits} channels {channels}: {}",
+        number_of(outcome_of(set))
+    )?;
+    part(rt, ", packet", &buf[36..40])
 }
 
 // Around bits that fill no byte, and where the product reaches 2^32.
@@ -93,34 +90,34 @@ fn settled(rt: &impl Print, written: CAFWriter) -> io::Result<()> {
     let labels = [LEFT, RIGHT];
     told(
         rt,
-        b"labels",
+        "labels",
         written.set_channel_layout_for_labels(&labels, 2),
     )?;
     let mut bare = *b"caff\x00\x01\x00\x00data\xff\xff\xff\xff\xff\xff\xff\xff\x00\x00\x00\x00???";
-    let found = CAFWriter::from_existing_file(&mut bare, 24);
+    let Ok(found) = CAFWriter::from_existing_file(&mut bare, 24) else {
+        return println!(rt; "not resumed");
+    };
     let resumed = found.writer;
-    let one = [1i32];
     told(
         rt,
-        b"samples",
-        resumed.write_pcm_24bit_as_packed(&mut bare, &one),
+        "samples",
+        resumed.write_pcm_24bit_as_packed(&mut bare, &[1]),
     )?;
     told(
         rt,
-        b"no samples",
-        resumed.write_pcm_24bit_as_packed(&mut bare, &one[..0]),
+        "no samples",
+        resumed.write_pcm_24bit_as_packed(&mut bare, &[]),
     )?;
-    told(rt, b"bytes", resumed.write_data(&mut bare, b"abc"))?;
+    told(rt, "bytes", resumed.write_data(&mut bare, b"abc"))?;
     Ok(())
 }
 
 fn main(rt: HostRuntime) -> io::Result<()> {
     let mut buf = [BYTE; 100];
     let written = write_example(&rt, &mut buf)?;
-    let len = written.file_len;
-    if len <= 100 {
-        part(&rt, b"file", &buf[..len])?;
-        part(&rt, b"after", &buf[len..])?;
+    if let Some((file, after)) = buf.split_at_checked(written.file_len) {
+        part(&rt, "file", file)?;
+        part(&rt, "after", after)?;
     }
     let row = [LEFT; 65];
     labels(&rt, &row[..64], 64)?;

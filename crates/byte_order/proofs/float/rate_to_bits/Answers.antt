@@ -1,4 +1,3 @@
-use borrow.Author.Rules.{rules}
 use Rattle.byte_order.proofs.float.rate_to_bits.Goals as goal
 
 pub returns-then-is_not_a_number : goal.returns-then-is_not_a_number

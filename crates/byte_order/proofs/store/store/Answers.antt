@@ -1,26 +1,25 @@
+use Prim.Native.Nat.{◌+◌, ◌≤◌}
+use mathlib.Core.Path.{sym, ◌∙◌}
 use native.Mathlib.Omega.{arith}
-use lib.ListN.{length-take, length-drop}
-use borrow.Author.Rules.{rules}
-use Rattle.byte_order.proofs.Budget.{none_done, part-done}
+use lib.ListN.{length, length-take, length-drop}
+use borrow.Author.Tests.{leb-true}
+use Rattle.byte_order.proofs.Budget.{part-done}
+use Rattle.byte_order.proofs.store.store.Goals.{After-is_there, Else-not-is_there}
 use Rattle.byte_order.proofs.store.store.Goals as goal
 
-pub returns-then-buf-count : goal.returns-then-buf-count
-returns-then-buf-count c =
-    let a = c.args in
-    none_done a.n a.at a.bytes.now a.buf.now (omega arith)
+room : (c : Else-not-is_there) → c.args.at + c.min-count.result ≤ length c.args.buf.now
+room c = leb-true _ _ (sym c.is_there.ensures ∙ c.if-not-is_there.false)
 
-pub returns-then-buf-count-2 : goal.returns-then-buf-count-2
-returns-then-buf-count-2 c =
-    let a = c.args in
-    none_done a.n a.at a.bytes.now a.buf.now (omega arith)
+pub overflow_add-end : goal.overflow_add-end
+overflow_add-end c = omega (arith, room (goal.at.overflow_add-end c).Else-not-is_there)
 
 pub slice_bounds-copy_all-end-2 : goal.slice_bounds-copy_all-end-2
-slice_bounds-copy_all-end-2 c = simp length-take (omega arith)
+slice_bounds-copy_all-end-2 c = simp length-take (omega (arith, room (goal.at.slice_bounds-copy_all-end-2 c).Else-not-is_there))
 
 pub copy_all-requires : goal.copy_all-requires
-copy_all-requires c = simp (length-take, length-drop) (omega arith)
+copy_all-requires c = simp (length-take, length-drop) (omega (arith, room (goal.at.copy_all-requires c).Else-not-is_there))
 
 pub returns : goal.returns
 returns c =
     let a = c.args in
-    part-done a.n a.at a.bytes.now a.buf.now c.fewer-count.result _ c.fewer-count.ensures c.copy_all.ensures (omega arith)
+    part-done a.n a.at a.bytes.now a.buf.now c.min-count.result _ c.min-count.ensures c.copy_all.ensures (room (goal.at.returns c).Else-not-is_there)

@@ -1,15 +1,21 @@
-use mathlib.Core.Path.{refl, sym, ◌∙◌}
-use native.Mathlib.Omega.{arith}
-use lib.ListN.{length}
-use borrow.Author.Rules.{rules}
-use Rattle.chan_reading.proofs.Answers.{given-fits, nothing_put, all-put, read_is}
+use Rattle.std.proofs.Common.{arith, sym, length}
+use Rattle.std.proofs.lemmas.Result.{err_from_is_err_and}
+use Rattle.chan_reading.proofs.Answers.{given-fits, chan-refused, chan-given}
 use Rattle.chan_reading.proofs.describe.read_chan.Goals as goal
 
+pub returns-in_err-head : goal.returns-in_err-head
+returns-in_err-head c =
+    let a = c.args in
+    let p = err_from_is_err_and c.from_residual.result c.from_residual.ensures.1 in
+    rw (p.1, p.2) (chan-refused a.body.now a.channels (length a.out.now) _ a.out.now c.in_err-head.ensures)
+
 pub put_described-requires : goal.put_described-requires
-put_described-requires c = let g = given-fits c.args.body.now (length c.args.body.now) c.args.channels (length c.args.out.now) c.in-Given.head (sym c.answer_for-answer.ensures ∙ c.in-Given.is) in (omega (arith, g.0), g.1)
+put_described-requires c =
+    let body = c.args.body.now in
+    let g = given-fits body (length body) c.args.channels (length c.args.out.now) c.in_ok-head.head (sym c.in_ok-head.ensures) in
+    (omega (arith, g.0), g.1)
 
-pub returns-in-Given : goal.returns-in-Given
-returns-in-Given c = (read_is c.args.body.now c.args.channels (length c.args.out.now) c.answer_for-answer.result c.answer_for-answer.ensures _ c.order_of-order.result c.in-Given.is c.order_of-order.ensures, all-put c.args.body.now c.args.channels (length c.args.out.now) c.answer_for-answer.result c.answer_for-answer.ensures c.in-Given.head c.args.out.now c.in-Given.is c.put_described.ensures)
-
-pub returns-in_default : goal.returns-in_default
-returns-in_default c = (read_is c.args.body.now c.args.channels (length c.args.out.now) c.answer_for-answer.result c.answer_for-answer.ensures _ c.order_of-order.result refl c.order_of-order.ensures, nothing_put c.args.body.now c.args.channels (length c.args.out.now) c.answer_for-answer.result c.answer_for-answer.ensures c.in_default.field-0 c.args.out.now c.in_default.is)
+pub returns : goal.returns
+returns c =
+    let a = c.args in
+    chan-given a.body.now a.channels (length a.out.now) c.in_ok-head.head a.out.now c.in_ok-head.ensures c.order_for.ensures c.put_described.ensures

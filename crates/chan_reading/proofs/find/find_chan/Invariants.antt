@@ -1,11 +1,7 @@
-use Rattle.chan_reading.proofs.FindOn.{find-on}
 use Rattle.chan_reading.specs.Find.{find_chan, find_from}
-use borrow.Author.Tests.{lt-ltb, le-ltb}
-use borrow.Author.Rules.{rules}
 use lib.ListN.{length}
-use native.Mathlib.Omega.{arith}
 use Prim.Native.Nat.{◌≤◌, ◌-◌}
-use mathlib.Core.Path.{◌≡◌, refl, sym, ◌∙◌}
+use mathlib.Core.Path.{◌≡◌}
 use Rattle.chan_reading.proofs.find.find_chan.Given as goal
 
 abbrev pub invariant-loop-p : goal.invariant-loop-p

@@ -7,7 +7,6 @@ use Rattle.layout.specs.Order.{order_for, order_places}
 use Rattle.wave.specs.Making.{made_head}
 use Rattle.conversion.specs.Said.{described}
 use Rattle.conversion.proofs.Orders.{count_fits, order-said, described-said, described-fit}
-use borrow.Author.Rules.{rules}
 use Rattle.conversion.proofs.labels.body_head.Goals as goal
 
 pub described_head-requires : goal.described_head-requires
@@ -20,9 +19,6 @@ returns-then-tag-eq-USE_CHANNEL_DESCRIPTIONS c =
     let a = c.args in
     c.described_head.ensures
     ∙ ap (λ (ls : List ℕ). made_head a.format ls a.payload) (ap (described a.body.now) c.be_u32.ensures ∙ described-said a.body.now (sym c.be_u32-tag.ensures ∙ c.if-tag-eq-USE_CHANNEL_DESCRIPTIONS.true))
-
-pub slice_bounds-labels-end : goal.slice_bounds-labels-end
-slice_bounds-labels-end c = omega (arith, count_fits (order_for c.be_u32-tag.result) c.order_for-order.result c.order_for-order.ensures)
 
 pub slice_bounds-wave_head-end : goal.slice_bounds-wave_head-end
 slice_bounds-wave_head-end c = simp length-take (omega (arith, count_fits (order_for c.be_u32-tag.result) c.order_for-order.result c.order_for-order.ensures))

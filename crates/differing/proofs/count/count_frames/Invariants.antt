@@ -1,14 +1,9 @@
-use borrow.Author.Rules.{rules}
-use Rattle.differing.proofs.GroupLaws.{fewer-there, begun}
+use Rattle.std.proofs.Common.{◌-◌, ◌≤◌, min}
 use Rattle.differing.specs.State.{Counted}
-use lib.ListN.{length}
-use native.Mathlib.Omega.{arith}
-use Prim.Native.Nat.{◌+◌, ◌-◌, ◌≤◌}
-use mathlib.Core.Path.{◌≡◌, refl, ◌∙◌}
 use Rattle.differing.proofs.count.count_frames.Given as goal
 
-abbrev pub invariant-loop-i : goal.invariant-loop-i
-invariant-loop-i l = (l.i ≤ l.frames) × (length l.counts ≡ length l.initial.counts) × (1 ≤ l.step) × Counted l.o l.one l.p l.two l.counts l.first l.i
+abbrev pub invariant-loop-from : goal.invariant-loop-from
+invariant-loop-from l = (1 ≤ l.step) × Counted l.o l.one l.p l.two l.counts l.first (min l.from l.frames)
 
-abbrev pub decreases-loop-i : goal.decreases-loop-i
-decreases-loop-i l = l.frames - l.i
+abbrev pub decreases-loop-from : goal.decreases-loop-from
+decreases-loop-from l = l.frames - l.from

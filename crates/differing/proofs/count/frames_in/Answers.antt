@@ -1,11 +1,12 @@
-use mathlib.Core.Path.{◌≡◌, sym}
-use native.Mathlib.Nat.{div-zero, div-div-eq-div-mul}
+use Rattle.std.proofs.Common.{◌≡◌, ℕ, ◌/◌, ◌<◌, Option, Some, None, SomeIff, arith, sym, ◌∙◌}
+use Rattle.std.specs.Option.{unwrap_or}
+use Rattle.std.proofs.Math.Nat.{div-zero, div-div-eq-div-mul}
 use Rattle.pcm.specs.Packing.{sample_size}
-use borrow.Author.Rules.{rules}
 use Rattle.differing.proofs.count.frames_in.Goals as goal
 
-pub returns-then-channels-eq0 : goal.returns-then-channels-eq0
-returns-then-channels-eq0 c = let none : c.args.channels ≡ 0 = c.if-channels-eq0.true in rw none (sym (div-zero c.args.bytes))
+divided : (o : Option ℕ) (n d : ℕ) → SomeIff o (0 < d) (n / d) → unwrap_or o 0 ≡ n / d
+divided None n d h = let z : d ≡ 0 = omega arith in rw z (sym (div-zero n))
+divided (Some q) n d h = h.1
 
 pub returns : goal.returns
-returns c = div-div-eq-div-mul c.args.bytes sample_size c.args.channels
+returns c = c.unwrap_or.ensures ∙ divided _ _ c.args.channels c.checked_div.ensures ∙ div-div-eq-div-mul c.args.bytes sample_size c.args.channels

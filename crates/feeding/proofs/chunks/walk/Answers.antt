@@ -1,28 +1,24 @@
-use mathlib.Core.Path.{◌≡◌, refl, sym, ◌∙◌}
-use Prim.Native.Nat.{◌-◌}
 use native.Mathlib.Omega.{arith}
-use lib.ListN.{length}
-use Rattle.feeding.specs.Chunks.{chunk_at}
-use Rattle.feeding.proofs.WholeChunks.{Whole, lies, next}
+use Rattle.feeding.proofs.WholeChunks.{walking-none, walking-within, next}
 use Rattle.feeding.proofs.chunks.walk.Goals as goal
 
-pub loop-to-init : goal.loop-to-init
-loop-to-init c = (refl, refl, λ m l. absurd (let z : ⊥ = omega arith in z))
+pub loop-n-init : goal.loop-n-init
+loop-n-init c = walking-none c.args.s.now
 
-pub whole_at-n-requires : goal.whole_at-n-requires
-whole_at-n-requires c = let i = c.loop-to.invariant in let l = lies c.args.s.now _ i.2 in omega (arith, i.0, l.within)
+pub whole_at-requires : goal.whole_at-requires
+whole_at-requires c = walking-within _ _ c.loop-n.invariant
 
-pub returns-then-n-eq0 : goal.returns-then-n-eq0
-returns-then-n-eq0 c = let i = c.loop-to.invariant in record { to = i.0; last = i.1; whole = i.2; end = sym c.whole_at-n.ensures ∙ c.if-n-eq0.true }
+pub overflow_add-w : goal.overflow_add-w
+overflow_add-w c = let x = next _ _ _ c.loop-n.invariant c.in-Some.ensures in omega (arith, x.within)
 
-pub overflow_add-to : goal.overflow_add-to
-overflow_add-to c = let i = c.loop-to.invariant in let x = next c.args.s.now _ _ _ i.0 i.2 c.whole_at-n.ensures c.if-n-eq0.false in omega (arith, x.within)
+pub overflow_add-w-in-Some : goal.overflow_add-w-in-Some
+overflow_add-w-in-Some c = let x = next _ _ _ c.loop-n.invariant c.in-Some.ensures in omega (arith, x.within, x.apart)
 
-pub overflow_add-chunks : goal.overflow_add-chunks
-overflow_add-chunks c = let i = c.loop-to.invariant in let x = next c.args.s.now _ _ _ i.0 i.2 c.whole_at-n.ensures c.if-n-eq0.false in omega (arith, x.within, x.apart)
+pub loop-n-smaller : goal.loop-n-smaller
+loop-n-smaller c = let x = next _ _ _ c.loop-n.invariant c.in-Some.ensures in let e = c.in-Some.ensures in omega (arith, x.within, e.1)
 
-pub loop-to-smaller : goal.loop-to-smaller
-loop-to-smaller c = let i = c.loop-to.invariant in let x = next c.args.s.now _ _ _ i.0 i.2 c.whole_at-n.ensures c.if-n-eq0.false in omega (arith, x.within, x.ahead)
+pub loop-n-preserved : goal.loop-n-preserved
+loop-n-preserved c = (next _ _ _ c.loop-n.invariant c.in-Some.ensures).on
 
-pub loop-to-preserved : goal.loop-to-preserved
-loop-to-preserved c = let i = c.loop-to.invariant in let x = next c.args.s.now _ _ _ i.0 i.2 c.whole_at-n.ensures c.if-n-eq0.false in (x.at, x.last, x.whole)
+pub returns : goal.returns
+returns c = let i = c.loop-n.invariant in record { to = i.to; last = i.last; whole = i.whole; end = c.in_default.ensures }

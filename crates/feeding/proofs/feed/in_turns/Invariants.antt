@@ -1,14 +1,9 @@
-use mathlib.Core.Path.{◌≡◌, refl}
-use Prim.Native.Nat.{◌-◌}
-use native.Mathlib.Omega.{arith}
 use lib.ListN.{length}
-use borrow.Author.Rules.{rules}
-use Rattle.feeding.proofs.InTurns.{Turned, past-asks, past-on, some, asks, one-turn, all-turned}
-use Rattle.feeder.proofs.Facts.{sound-facts}
+use Rattle.feeding.proofs.InTurns.{Turned}
 use Rattle.feeding.proofs.feed.in_turns.Given as goal
 
-abbrev pub invariant-loop-i : goal.invariant-loop-i
-invariant-loop-i l = Turned l.block l.initial.last l.last l.i
+abbrev pub invariant-loop-rest : goal.invariant-loop-rest
+invariant-loop-rest l = Turned l.initial.last l.block l.last l.rest
 
-abbrev pub decreases-loop-i : goal.decreases-loop-i
-decreases-loop-i l = length l.block - l.i
+abbrev pub decreases-loop-rest : goal.decreases-loop-rest
+decreases-loop-rest l = length l.rest

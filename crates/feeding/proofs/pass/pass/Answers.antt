@@ -1,22 +1,34 @@
-use borrow.Author.Tests.{not-true, not-false}
-use mathlib.Core.Path.{sym, ◌∙◌, ap}
+use mathlib.Core.Path.{◌≡◌, sym, ◌∙◌, ap}
+use Rattle.feeder.specs.declared.Feeder.{Feeder}
 use Rattle.feeder.proofs.Facts.{sound-facts}
 use Prim.Native.Nat.{min}
 use native.Mathlib.Omega.{arith}
-use Rattle.feeding.specs.Feed.{passed_as}
+use Rattle.feeding.specs.Feed.{Fed, passed_as, number_at}
 use Rattle.feeding.specs.Turns.{room_for}
-use Rattle.feeding.proofs.Passing.{may-wanted, pass-is, pass-not}
-use borrow.Author.Rules.{rules}
+use Rattle.feeding.proofs.Passing.{may-wanted, passes, pass-is, pass-not}
 use Rattle.feeding.proofs.pass.pass.Goals as goal
 
 pub returns-then-not-is_sound : goal.returns-then-not-is_sound
-returns-then-not-is_sound c = sym (pass-not c.args.r c.args.n (sym c.is_sound.ensures ∙ c.if-not-is_sound.true))
+returns-then-not-is_sound c =
+    let e = pass-not c.args.r c.args.n (sym c.is_sound.ensures ∙ c.if-not-is_sound.true) in
+    record { number = sym (ap (λ (x : Fed). x.number) e); feeder = sym (ap (λ (x : Fed). x.feeder) e) }
 
-pub overflow_sub-r : goal.overflow_sub-r
-overflow_sub-r c = (sound-facts c.args.r (sym c.is_sound.ensures ∙ c.if-not-is_sound.false)).total
+pub overflow_sub-room : goal.overflow_sub-room
+overflow_sub-room c = (sound-facts c.args.r (sym c.if-not-is_sound.ensures)).total
 
-pub passed-last-requires : goal.passed-last-requires
-passed-last-requires c = let a = c.args in let t = (sound-facts a.r (sym c.is_sound.ensures ∙ c.if-not-is_sound.false)).total in let w = may-wanted a.r.count c.fewer-m.result (room_for a.r) a.r.phase (omega (arith, c.fewer-m.ensures, c.may_pass.ensures)) in (w.0, omega (arith, t, w.1))
+pub passed-feeder-requires : goal.passed-feeder-requires
+passed-feeder-requires c =
+    let r = c.args.r in
+    let t = (sound-facts r (sym c.if-not-is_sound.ensures)).total in
+    let w = may-wanted r.count c.min.result (room_for r) r.phase (omega (arith, c.min.ensures, c.may_pass.ensures)) in
+    (w.0, omega (arith, t, w.1))
 
 pub returns : goal.returns
-returns c = let a = c.args in let p = c.passed-last.ensures ∙ ap (passed_as a.r.phase a.r) (c.fewer-m.ensures ∙ ap (min a.n) c.may_pass.ensures) in rw (c.number_at.ensures, p) (sym (pass-is a.r a.n (sym c.is_sound.ensures ∙ c.if-not-is_sound.false)))
+returns c =
+    let a = c.args in
+    let p : c.passed-feeder.result ≡ passes a.r a.n = c.passed-feeder.ensures ∙ ap (passed_as a.r.phase a.r) (c.min.ensures ∙ ap (min a.n) c.may_pass.ensures) in
+    let e = pass-is a.r a.n (sym c.if-not-is_sound.ensures) in
+    record {
+      number = c.outcome_at.ensures ∙ ap (λ (x : Feeder). number_at x.phase) p ∙ sym (ap (λ (x : Fed). x.number) e);
+      feeder = p ∙ sym (ap (λ (x : Fed). x.feeder) e);
+    }

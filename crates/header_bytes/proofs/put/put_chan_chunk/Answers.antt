@@ -1,10 +1,9 @@
-use Rattle.header_bytes.proofs.Parts.{chan-put}
+use Rattle.std.proofs.Common.{arith}
 use Rattle.layout.proofs.Descriptions.{chan-length}
-use native.Mathlib.Omega.{arith}
-use borrow.Author.Rules.{rules}
-use Rattle.header_bytes.proofs.put.put_chunk_header.Reads as put-chunk-header-reads
-use Rattle.layout.proofs.chan.put_chan.Reads as put-chan-reads
+use Rattle.header_bytes.proofs.Parts.{chan-put}
 use Rattle.header_bytes.proofs.put.put_chan_chunk.Goals as goal
 
 pub returns : goal.returns
-returns c = (omega (arith, chan-length c.args.tag c.args.labels.now), chan-put c.args.out.now c.requires.0 c.args.tag c.args.labels.now c.requires.1 c.put_chunk_header.ensures c.put_chan.ensures.1)
+returns c =
+    let a = c.args in
+    (omega (arith, chan-length a.tag a.labels.now), chan-put a.out.now c.requires.0 a.tag a.labels.now c.requires.1 c.put_chunk_header.ensures c.put_chan.ensures.1)

@@ -1,5 +1,4 @@
 use native.Mathlib.Omega.{arith}
-use borrow.Author.Rules.{rules}
 use Rattle.layout.proofs.Body.{too_many, no_room, body-put}
 use Rattle.layout.proofs.chan.put_chan.Goals as goal
 
@@ -19,4 +18,4 @@ returns-then-buf-size-2 c =
 pub returns : goal.returns
 returns c =
     let a = c.args in
-    body-put a.buf.now a.at a.tag a.labels.now (omega arith) (omega arith) c.head-bytes.ensures c.store.ensures.1 c.put_descriptions.ensures
+    body-put a.buf.now a.at a.tag a.labels.now (omega arith) (omega arith) c.head.ensures c.store.ensures.1 c.put_descriptions.ensures

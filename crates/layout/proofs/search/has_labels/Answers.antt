@@ -1,9 +1,9 @@
 use mathlib.Core.Path.{◌≡◌, refl, ap, sym, ◌∙◌}
 use mathlib.Core.List.{List}
-use Prim.Native.Nat.{ℕ, ◌≤◌, ◌<◌, ◌-◌}
+use Prim.Native.Nat.{ℕ, ◌<◌}
 use native.Mathlib.Numerals.{add-one}
 use native.Mathlib.Omega.{arith}
-use lib.ListN.{length, take, get_or, length-take}
+use lib.ListN.{length, get_or}
 use lib.Seq.{take-suc, take_all, get_or-take}
 use borrow.Author.Rules.{rules}
 use Rattle.byte_order.proofs.Same.{exactly-refl, exactly-no}

@@ -1,10 +1,9 @@
 use mathlib.Core.Path.{◌≡◌, ap, sym, ◌∙◌}
 use mathlib.Core.List.{List}
-use Prim.Native.Nat.{suc, ◌≤◌, ◌-◌, ◌+◌}
+use Prim.Native.Nat.{suc, ◌+◌}
 use native.Mathlib.Omega.{arith}
 use native.Mathlib.Numerals.{add-one}
 use lib.ListN.{drop, drop_of_length-le}
-use borrow.Author.Rules.{rules}
 use Rattle.layout.specs.Table.{StandardLayout}
 use Rattle.layout.specs.Searched.{searched, rows_before}
 use Rattle.layout.proofs.Searched.{«40-rows», next_row}

@@ -1,10 +1,9 @@
 use mathlib.Core.Path.{◌≡◌, refl, sym, ap, ◌∙◌}
 use Prim.Native.Nat.{◌-◌}
 use native.Mathlib.Omega.{arith}
-use borrow.Author.Rules.{rules}
 use Rattle.layout.specs.Table.{standard_layouts, row_at}
 use Rattle.layout.specs.Searched.{searched, searched_at}
-use Rattle.layout.proofs.Places.{past, in-run, in_rest}
+use Rattle.layout.proofs.Places.{in-run, in_rest}
 use Rattle.layout.proofs.table.row_at.Goals as goal
 
 pub returns-in-16 : goal.returns-in-16

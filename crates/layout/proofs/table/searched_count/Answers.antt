@@ -1,5 +1,4 @@
 use mathlib.Core.Path.{ap}
-use borrow.Author.Rules.{rules}
 use Rattle.layout.specs.declared.Row.{Row}
 use Rattle.layout.proofs.table.searched_count.Goals as goal
 

@@ -1,14 +1,12 @@
-use mathlib.Core.Path.{◌≡◌, refl, sym, ap, ◌∙◌}
-use mathlib.Core.Bool.{true, false}
+use mathlib.Core.Path.{◌≡◌, sym, ap, ◌∙◌}
+use mathlib.Core.Bool.{true}
 use Prim.Native.Nat.{ℕ, ◌+◌, ◌*◌, ◌≤◌}
 use native.Mathlib.Omega.{arith}
 use lib.ListN.{length}
-use borrow.Author.Rules.{rules}
-use borrow.Author.Tests.{not-true, not-false}
 use Rattle.byte_order.specs.Splice.{splice}
 use Rattle.overview.specs.Groups.{group_count, group_pairs}
 use Rattle.overview.specs.Put.{end_of, can_put}
-use Rattle.overview.proofs.Counts.{can-put-says}
+use Rattle.overview.proofs.Counts.{can_put_says}
 use Rattle.overview.proofs.Stored.{head, chunk-put}
 use Rattle.overview.proofs.chunk.put_overview.Goals as goal
 use Rattle.overview.proofs.chunk.put_overview.Goals.{After-group_count-count}
@@ -22,33 +20,8 @@ fits : (c : After-group_count-count)
     × (c.args.at + 20 + 4 * (c.args.track.channels * c.group_count-count.result) ≤ length c.args.buf.now)
 fits c =
     let a = c.args in
-    let s = can-put-says a.track a.group a.frames a.at (length a.buf.now) (tested c) in
+    let s = can_put_says a.track a.group a.frames a.at (length a.buf.now) (tested c) in
     (s.0, rw c.group_count-count.ensures (omega (arith, s.1)))
-
-pub returns-then-not-can_put : goal.returns-then-not-can_put
-returns-then-not-can_put c =
-    let refused = sym c.can_put.ensures ∙ c.if-not-can_put.true in
-    (rw refused, rw refused)
-
-pub overflow_mul-size : goal.overflow_mul-size
-overflow_mul-size c = omega (arith, (fits (goal.at.overflow_mul-size c).After-group_count-count).1)
-
-pub overflow_mul-size-2 : goal.overflow_mul-size-2
-overflow_mul-size-2 c = omega (arith, (fits (goal.at.overflow_mul-size-2 c).After-group_count-count).1)
-
-pub overflow_add-size : goal.overflow_add-size
-overflow_add-size c = omega (arith, (fits (goal.at.overflow_add-size c).After-group_count-count).1)
-
-pub put_head-requires : goal.put_head-requires
-put_head-requires c = omega (arith, (fits (goal.at.put_head-requires c).After-group_count-count).1)
-
-pub overflow_add-at : goal.overflow_add-at
-overflow_add-at c = omega (arith, (fits (goal.at.overflow_add-at c).After-group_count-count).1)
-
-pub put_groups-requires : goal.put_groups-requires
-put_groups-requires c =
-    let f = fits (goal.at.put_groups-requires c).After-group_count-count in
-    (c.group_count-count.ensures, omega (arith, f.0), omega (arith, f.1, c.put_head.auto))
 
 pub returns : goal.returns
 returns c =

@@ -1,13 +1,8 @@
-use borrow.Author.Rules.{rules}
-use Rattle.overview.proofs.Blocks.{ends-before, first_block, put-over, block-put}
-use Rattle.overview.specs.Put.{end_of}
 use Rattle.overview.specs.Groups.{channel_pairs}
 use Rattle.byte_order.specs.Splice.{splice}
-use lib.ListN.{length, get_or}
-use native.Mathlib.Omega.{arith}
-use native.Mathlib.Numerals.{add-one}
-use Prim.Native.Nat.{ℕ, suc, ◌+◌, ◌-◌, ◌*◌, ◌≤◌, ◌<◌}
-use mathlib.Core.Path.{◌≡◌, refl, sym, ap, ◌∙◌}
+use lib.ListN.{length}
+use Prim.Native.Nat.{◌-◌, ◌≤◌}
+use mathlib.Core.Path.{◌≡◌}
 use Rattle.overview.proofs.pairs.put_group.Given as goal
 
 abbrev pub invariant-loop-last : goal.invariant-loop-last

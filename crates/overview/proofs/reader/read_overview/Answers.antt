@@ -1,44 +1,26 @@
-use mathlib.Core.Path.{◌≡◌, refl, sym, ap, ◌∙◌}
-use mathlib.Core.Bool.{true, false}
-use Prim.Native.Nat.{ℕ}
-use native.Mathlib.Omega.{arith}
-use lib.Dec.{eqb}
-use lib.ListN.{length}
-use borrow.Author.Rules.{rules}
-use borrow.Author.Tests.{eq-eqb, ne_eqb}
-use Rattle.overview.specs.Reader.{read_number, overview_read, read_into}
-use Rattle.overview.proofs.ReadLaws.{whole}
+use Rattle.std.proofs.Common.{◌≡◌, arith, length, sym, zero-add}
+use lib.Seq.{length-take-le}
+use Rattle.answers.specs.Numbers.{done}
+use Rattle.overview.specs.Reader.{read_number, read_into, numbers_in}
+use Rattle.overview.proofs.ReadLaws.{whole, length-shown}
 use Rattle.overview.proofs.reader.read_overview.Goals as goal
 
-pub returns-then-number-ne-DONE : goal.returns-then-number-ne-DONE
-unfolding overview_read read_into
-returns-then-number-ne-DONE c =
-    let a = c.args in
-    let n = read_number (length a.body.now) a.channels (length a.out.now) in
-    let other : eqb n 0 ≡ false = ne_eqb n 0 (λ e. c.if-number-ne-DONE.true (c.read_number-number.ensures ∙ e)) in
-    (rw (other, c.read_number-number.ensures), rw other)
-
-pub overflow_sub-bytes : goal.overflow_sub-bytes
-overflow_sub-bytes c =
-    let a = c.args in
-    (whole (length a.body.now) a.channels (length a.out.now) (sym c.read_number-number.ensures ∙ c.if-number-ne-DONE.false)).0
+pub slice_bounds-show-end-2 : goal.slice_bounds-show-end-2
+slice_bounds-show-end-2 c =
+    let w = whole _ _ _ (sym (rw c.in_ok-check_read.was at c.check_read.ensures)) in
+    sym (length-take-le (numbers_in (length c.args.body.now)) c.args.out.now w.2)
 
 pub show-requires : goal.show-requires
 show-requires c =
-    let a = c.args in
-    let w = whole (length a.body.now) a.channels (length a.out.now) (sym c.read_number-number.ensures ∙ c.if-number-ne-DONE.false) in
-    (omega arith, w.2)
+    let w = whole _ _ _ (sym (rw c.in_ok-check_read.was at c.check_read.ensures)) in
+    let l = length-take-le (numbers_in (length c.args.body.now)) c.args.out.now w.2 in
+    omega (arith, w.0)
 
-pub nonzero_div-result : goal.nonzero_div-result
-nonzero_div-result c =
+pub returns-clause-stored : goal.returns-clause-stored
+unfolding read_into
+returns-clause-stored c =
     let a = c.args in
-    let w = whole (length a.body.now) a.channels (length a.out.now) (sym c.read_number-number.ensures ∙ c.if-number-ne-DONE.false) in
-    omega (arith, w.1)
-
-pub returns : goal.returns
-unfolding overview_read read_into
-returns c =
-    let a = c.args in
-    let n = read_number (length a.body.now) a.channels (length a.out.now) in
-    let yes' : eqb n 0 ≡ true = eq-eqb n 0 (sym c.read_number-number.ensures ∙ c.if-number-ne-DONE.false) in
-    (rw (yes', c.be_u32.ensures, c.be_u32-2.ensures), rw yes' c.show.ensures)
+    let s = a.body.now in
+    let accepted : read_number (length s) a.channels (length a.out.now) ≡ done = sym (rw c.in_ok-check_read.was at c.check_read.ensures) in
+    let l = length-take-le (numbers_in (length s)) a.out.now (whole _ _ _ accepted).2 in
+    rw (accepted, c.show.ensures, l, zero-add, length-shown)

@@ -1,12 +1,5 @@
-use mathlib.Core.Path.{◌≡◌, refl, sym, ◌∙◌}
-use mathlib.Core.Bool.{false}
-use Prim.Native.Nat.{◌≤◌, ◌-◌}
-use native.Mathlib.Omega.{arith}
-use lib.ListN.{length}
-use borrow.Author.Rules.{rules}
-use borrow.Author.Tests.{lt-ltb, le-ltb}
+use Rattle.std.proofs.Common.{◌≡◌, ◌≤◌, ◌-◌, length}
 use Rattle.overview_finding.specs.Find.{find_overview, find_from}
-use Rattle.overview_finding.proofs.FindOn.{find-on}
 use Rattle.overview_finding.proofs.find.find_overview.Given as goal
 
 abbrev pub invariant-loop-p : goal.invariant-loop-p

@@ -7,18 +7,10 @@ use Rattle.byte_order.specs.Splice.{splice}
 use Rattle.byte_order.proofs.Budget.{none_done, all_done, take_min}
 use Rattle.pcm.specs.Packing.{packed}
 use Rattle.pcm.proofs.Packed.{length-packed}
-use borrow.Author.Rules.{rules}
 use Rattle.pcm.proofs.packing.pack_first.Goals as goal
 
 pub returns-then-buf-count : goal.returns-then-buf-count
 returns-then-buf-count c =
-    let a = c.args in
-    let bs = packed a.endianness a.samples.now in
-    let l = length-packed a.endianness a.samples.now in
-    rw (← l) (none_done a.n a.at bs a.buf.now (omega arith))
-
-pub returns-then-buf-count-2 : goal.returns-then-buf-count-2
-returns-then-buf-count-2 c =
     let a = c.args in
     let bs = packed a.endianness a.samples.now in
     let l = length-packed a.endianness a.samples.now in

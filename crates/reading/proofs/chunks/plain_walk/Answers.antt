@@ -1,78 +1,45 @@
-use mathlib.Core.Path.{◌≡◌, refl, sym, ◌∙◌}
-use Prim.Native.Nat.{◌*◌, ◌-◌, ◌≤◌}
-use native.Mathlib.Omega.{arith}
-use lib.ListN.{length}
-use Rattle.reading.specs.Walk.{walk}
+use Rattle.std.proofs.Common.{arith, sym, ◌∙◌, inl, inr, ap}
 use Rattle.reading.specs.Rules.{Plain}
+use Rattle.reading.specs.Shapes.{step_of}
 use Rattle.reading.proofs.Walk.{ahead_of, turn}
 use Rattle.reading.proofs.PlainSteps.{as_plain}
-use borrow.Author.Rules.{rules}
 use Rattle.reading.proofs.chunks.plain_walk.Goals as goal
 
-pub loop-f-init : goal.loop-f-init
-loop-f-init c = (omega arith, omega arith, refl)
-
-pub overflow_add-chunks : goal.overflow_add-chunks
-overflow_add-chunks c = omega arith
-
 pub loop-f-smaller-in-Format : goal.loop-f-smaller-in-Format
-loop-f-smaller-in-Format c =
-    let s = c.args.s.now in
-    let e = sym c.in-Format.is ∙ c.plain_step-step.ensures in
-    omega (arith, ahead_of s Plain c.loop-f.p e)
+loop-f-smaller-in-Format c = omega (arith, ahead_of c.args.s.now Plain c.loop-f.p c.in-Format.ensures)
 
 pub loop-f-preserved-in-Format : goal.loop-f-preserved-in-Format
 loop-f-preserved-in-Format c =
     let s = c.args.s.now in
-    let e = sym c.in-Format.is ∙ c.plain_step-step.ensures in
-    let h = ahead_of s Plain c.loop-f.p e in
-    (omega arith, omega arith, turn s Plain c.loop-f.p c.loop-f.format c.loop-f.chunks e c.loop-f.invariant.2)
-
-pub overflow_add-chunks-in-Skip : goal.overflow_add-chunks-in-Skip
-overflow_add-chunks-in-Skip c = omega arith
+    let l = c.loop-f in
+    let h = ahead_of s Plain l.p c.in-Format.ensures in
+    record { counted = omega arith; within = omega arith; walked = turn s Plain l.p l.format l.chunks c.in-Format.ensures l.invariant.walked }
 
 pub loop-f-smaller : goal.loop-f-smaller
-loop-f-smaller c =
-    let s = c.args.s.now in
-    let e = sym c.in-Skip.is ∙ c.plain_step-step.ensures in
-    omega (arith, ahead_of s Plain c.loop-f.p e)
+loop-f-smaller c = omega (arith, ahead_of c.args.s.now Plain c.loop-f.p c.in-Skip.ensures)
 
 pub loop-f-preserved : goal.loop-f-preserved
 loop-f-preserved c =
     let s = c.args.s.now in
-    let e = sym c.in-Skip.is ∙ c.plain_step-step.ensures in
-    let h = ahead_of s Plain c.loop-f.p e in
-    (omega arith, omega arith, turn s Plain c.loop-f.p c.loop-f.format c.loop-f.chunks e c.loop-f.invariant.2)
-
-pub overflow_add-result : goal.overflow_add-result
-overflow_add-result c = omega arith
+    let l = c.loop-f in
+    let h = ahead_of s Plain l.p c.in-Skip.ensures in
+    record { counted = omega arith; within = omega arith; walked = turn s Plain l.p l.format l.chunks c.in-Skip.ensures l.invariant.walked }
 
 pub returns-in-Data : goal.returns-in-Data
 returns-in-Data c =
-    let s = c.args.s.now in
-    let e = sym c.in-Data.is ∙ c.plain_step-step.ensures in
-    rw c.info_of.ensures (sym (turn s Plain c.loop-f.p c.loop-f.format c.loop-f.chunks e c.loop-f.invariant.2))
+    let l = c.loop-f in
+    rw c.info_of-info.ensures (sym (turn c.args.s.now Plain l.p l.format l.chunks c.in-Data.ensures l.invariant.walked))
 
-pub overflow_add-result-in-Refused : goal.overflow_add-result-in-Refused
-overflow_add-result-in-Refused c =
-    let s = c.args.s.now in
-    let e = sym c.in-Refused.is ∙ c.plain_step-step.ensures in
-    omega (arith, ahead_of s Plain c.loop-f.p e)
+pub overflow_add-chunks-in-Refused : goal.overflow_add-chunks-in-Refused
+overflow_add-chunks-in-Refused c = omega (arith, ahead_of c.args.s.now Plain c.loop-f.p c.in-Refused.ensures)
 
 pub returns-in-Refused : goal.returns-in-Refused
 returns-in-Refused c =
-    let s = c.args.s.now in
-    let e = sym c.in-Refused.is ∙ c.plain_step-step.ensures in
-    sym (turn s Plain c.loop-f.p c.loop-f.format c.loop-f.chunks e c.loop-f.invariant.2)
+    let l = c.loop-f in
+    rw c.new.ensures (sym (turn c.args.s.now Plain l.p l.format l.chunks c.in-Refused.ensures l.invariant.walked))
 
-pub returns-in-Closed : goal.returns-in-Closed
-returns-in-Closed c =
+pub unreachable-requires : goal.unreachable-requires
+unreachable-requires c =
     let s = c.args.s.now in
-    let e = sym c.in-Closed.is ∙ c.plain_step-step.ensures in
-    absurd (as_plain s c.loop-f.p e)
-
-pub returns-in-End : goal.returns-in-End
-returns-in-End c =
-    let s = c.args.s.now in
-    let e = sym c.in-End.is ∙ c.plain_step-step.ensures in
-    absurd (as_plain s c.loop-f.p e)
+    let e = c.plain_step.ensures in
+    elim c.in-Closed.is [ inl h ↦ as_plain s c.loop-f.p (sym (ap step_of h.3) ∙ e) | inr h ↦ as_plain s c.loop-f.p (sym (ap step_of h.2) ∙ e) ]

@@ -1,48 +1,29 @@
-use mathlib.Core.Path.{refl}
-use Prim.Native.Nat.{◌+◌}
-use native.Mathlib.Omega.{arith}
-use Rattle.reading.specs.Table.{Strictly}
-use Rattle.reading.specs.Rules.{Tail}
-use Rattle.reading.specs.declared.Stop.TheVariants as stop
-use Rattle.reading.proofs.Passing.{stops_as, refused, tail-end, tail-cut}
-use borrow.Author.Rules.{rules}
+use Rattle.std.proofs.Common.{refl}
+use Rattle.std.proofs.lemmas.Result.{err_from_is_err_and}
+use Rattle.reading.proofs.Passing.{after-data, tail-cut}
 use Rattle.reading.proofs.strict_chunks.tail.Goals as goal
 
-pub pass-stop-requires : goal.pass-stop-requires
-pass-stop-requires c = (c.requires.0, c.requires.1)
-
-pub returns-then-n-eq0 : goal.returns-then-n-eq0
-returns-then-n-eq0 c =
+pub returns-in_err-chunks : goal.returns-in_err-chunks
+returns-in_err-chunks c =
     let a = c.args in
-    tail-end a.s.now a.position a.from a.met c.in-Rest.n c.in-Rest.chunks a.size c.if-n-eq0.true c.requires.2 c.requires.3 (stops_as a.s.now a.from a.met c.in-Rest.is c.pass-stop.ensures)
+    let p = err_from_is_err_and c.from_residual.result c.from_residual.ensures.1 in
+    rw (p.1, p.2) (after-data a.s.now a.from a.met (λ size start f. refl) c.in_err-chunks.ensures)
 
-pub overflow_add-result : goal.overflow_add-result
-overflow_add-result c =
+pub returns-in-Rest-eq0-default : goal.returns-in-Rest-eq0-default
+returns-in-Rest-eq0-default c =
     let a = c.args in
-    let h = (stops_as a.s.now a.from a.met c.in-Data.is c.pass-stop.ensures) in
-    omega (arith, h.within.0, h.within.1)
+    let r = c.in-Rest-eq0-default in
+    after-data a.s.now a.from a.met (λ size start f. rw r.field-0-test) (rw r.is at c.in_ok-chunks.ensures)
 
-pub returns-else-n-eq0 : goal.returns-else-n-eq0
-returns-else-n-eq0 c =
+pub returns-in-Rest : goal.returns-in-Rest
+returns-in-Rest c =
     let a = c.args in
-    refused a.s.now (Tail a.position (a.position + 12)) Strictly.after a.from a.met (stop.Rest c.in-Rest.n c.in-Rest.chunks) (λ f. tail-cut a.s.now a.position a.from a.met c.in-Rest.n c.in-Rest.chunks f c.if-n-eq0.false) (stops_as a.s.now a.from a.met c.in-Rest.is c.pass-stop.ensures)
-
-pub returns-in-Desc : goal.returns-in-Desc
-returns-in-Desc c =
-    let a = c.args in
-    refused a.s.now (Tail a.position (a.position + 12)) Strictly.after a.from a.met (stop.Desc c.in-Desc.chunks) (λ f. refl) (stops_as a.s.now a.from a.met c.in-Desc.is c.pass-stop.ensures)
+    let r = c.in-Rest in
+    let stopped = rw r.is at c.in_ok-chunks.ensures in
+    rw c.new.ensures (after-data a.s.now a.from a.met (λ size start f. tail-cut a.s.now a.from a.met r.field-0 r.chunks size start f r.field-0-test.1) stopped)
 
 pub returns-in-Data : goal.returns-in-Data
 returns-in-Data c =
     let a = c.args in
-    refused a.s.now (Tail a.position (a.position + 12)) Strictly.after a.from a.met (stop.Data c.in-Data.field-0 c.in-Data.chunks) (λ f. refl) (stops_as a.s.now a.from a.met c.in-Data.is c.pass-stop.ensures)
-
-pub returns-in-Negative : goal.returns-in-Negative
-returns-in-Negative c =
-    let a = c.args in
-    refused a.s.now (Tail a.position (a.position + 12)) Strictly.after a.from a.met (stop.Negative c.in-Negative.chunks) (λ f. refl) (stops_as a.s.now a.from a.met c.in-Negative.is c.pass-stop.ensures)
-
-pub returns-in-PastEnd : goal.returns-in-PastEnd
-returns-in-PastEnd c =
-    let a = c.args in
-    refused a.s.now (Tail a.position (a.position + 12)) Strictly.after a.from a.met (stop.PastEnd c.in-PastEnd.chunks) (λ f. refl) (stops_as a.s.now a.from a.met c.in-PastEnd.is c.pass-stop.ensures)
+    let stopped = rw c.in-Data.is at c.in_ok-chunks.ensures in
+    rw c.new-in-Data.ensures (after-data a.s.now a.from a.met (λ size start f. refl) stopped)

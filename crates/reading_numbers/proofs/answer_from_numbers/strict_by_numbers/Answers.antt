@@ -1,16 +1,16 @@
-use mathlib.Core.Path.{◌≡◌, ◌∙◌}
-use native.Mathlib.Omega.{arith}
-use lib.ListN.{replicate}
-use borrow.Author.Rules.{rules}
-use Rattle.reading.specs.Claims.{Bytes}
-use Rattle.reading.specs.Strict.{strict}
-use Rattle.reading_numbers.specs.ReadingNumbers.{strict_of}
-use Rattle.reading_numbers.proofs.StrictBack.{all-bytes, strict-back}
+use Rattle.reading_numbers.proofs.StrictBack.{all-bytes, told-back, not-done}
 use Rattle.reading_numbers.proofs.answer_from_numbers.strict_by_numbers.Goals as goal
 
-pub returns : goal.returns
-returns c =
+pub returns-in-Ok : goal.returns-in-Ok
+returns-in-Ok c =
     let s = c.args.file.now in
-    let bytes : Bytes s = all-bytes s (λ i. (c.shared_slice_known-1.given i).fits) in
-    let same : strict_of c.tell_strict-number.result c.tell_strict-number.new.out ≡ strict s = rw (c.tell_strict-number.ensures.value, c.tell_strict-number.ensures.out_after) (strict-back s (replicate 13 0) bytes (omega arith)) in
-    c.strict_of.ensures ∙ same
+    let told = c.put_strict-outcome.ensures in
+    let back = told-back s (all-bytes s (λ i. (c.type_inv.file i).fits)) told.value told.out_after in
+    rw (c.values_in.ensures, c.number_at-chunks.ensures) (rw c.in-Ok.is at back)
+
+pub returns-in-Err : goal.returns-in-Err
+returns-in-Err c =
+    let s = c.args.file.now in
+    let told = c.put_strict-outcome.ensures in
+    let back = told-back s (all-bytes s (λ i. (c.type_inv.file i).fits)) told.value told.out_after in
+    rw (c.new.ensures, c.number_at-chunks.ensures) (rw (c.in-Err.is, not-done c.in-Err.refusal) at back)

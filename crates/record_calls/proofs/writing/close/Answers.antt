@@ -3,7 +3,6 @@ use Rattle.record_calls.proofs.Places.{closed}
 use Rattle.record_numbers.specs.RecordNumbers.{record_of}
 use Rattle.record_numbers.proofs.Tidied.{tidied-is}
 use mathlib.Core.Path.{◌∙◌}
-use borrow.Author.Rules.{rules}
 use Rattle.record_calls.proofs.writing.close.Goals as goal
 
 pub returns : goal.returns

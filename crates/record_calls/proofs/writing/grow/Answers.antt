@@ -3,14 +3,7 @@ use Rattle.record_calls.proofs.Places.{grown}
 use Rattle.record_numbers.specs.RecordNumbers.{record_of}
 use Rattle.record_numbers.proofs.Tidied.{tidied-is}
 use mathlib.Core.Path.{◌∙◌}
-use borrow.Author.Rules.{rules}
 use Rattle.record_calls.proofs.writing.grow.Goals as goal
-
-pub overflow_add-len : goal.overflow_add-len
-overflow_add-len c = record { fits = rw c.number_at.ensures c.requires.2 }
-
-pub overflow_add-count : goal.overflow_add-count
-overflow_add-count c = record { fits = rw c.number_at-2.ensures c.requires.3 }
 
 pub returns : goal.returns
 unfolding record_of

@@ -1,21 +1,19 @@
-use Rattle.record_calls.proofs.Calls.{none-held, record-held, short-counted, none-counted, record-counted}
+use Rattle.record_calls.proofs.Calls.{none-held, some-held, none-counted, record-counted}
 use Rattle.writer.specs.Data.{data_call}
 use Rattle.writer.specs.declared.CAFWriter.{CAFWriter}
 use lib.ListN.{length}
-use borrow.Author.Rules.{rules}
+use Rattle.std.proofs.Common.{refl, sym, ◌∙◌}
 use Rattle.record_made.proofs.counted.write_data_counted.Goals as goal
 
-pub returns-then-out-lt-COUNTED_PLACES : goal.returns-then-out-lt-COUNTED_PLACES
-returns-then-out-lt-COUNTED_PLACES c = let a = c.args in short-counted a.n a.held.now a.buf.now a.out.now _ c.if-out-lt-COUNTED_PLACES.true
-
-pub returns-then-not-kept : goal.returns-then-not-kept
-returns-then-not-kept c =
+pub returns-in_default : goal.returns-in_default
+returns-in_default c =
     let a = c.args in
-    none-counted a.n a.held.now a.buf.now a.out.now _ c.if-out-lt-COUNTED_PLACES.false c.tell.ensures.0 c.tell.ensures.1 (none-held _ c.record_in-kept.ensures c.if-not-kept.true) c.no_count.ensures
+    none-counted a.n a.held.now a.buf.now a.out.now _ c.if-out-lt-COUNTED_PLACES.false c.tell.ensures.0 c.tell.ensures.1 (none-held a.held.now (sym c.record_in.ensures ∙ c.in_default.is)) refl
 
 pub returns : goal.returns
 returns c =
     let a = c.args in
-    let k = record-held a.held.now c.record_in-kept.ensures c.if-not-kept.false in
-    let p = rw k.1 at c.write_data_counted-done.ensures in
-    record-counted a.n a.held.now a.buf.now a.out.now (λ (w : CAFWriter). data_call w (length a.buf.now) a.bytes.now) c.if-out-lt-COUNTED_PLACES.false c.tell-2.ensures.0 c.tell-2.ensures.1 k.0 p.0 p.1
+    let k = some-held a.held.now (sym c.record_in.ensures ∙ c.in-Some.is) in
+    let p = rw k.1 at c.write_data_counted.ensures in
+    let t = rw k.1 at c.tell-2.ensures in
+    record-counted a.n a.held.now a.buf.now a.out.now (λ (w : CAFWriter). data_call w (length a.buf.now) a.bytes.now) c.if-out-lt-COUNTED_PLACES.false t.0 t.1 k.0 p.0 p.1

@@ -17,7 +17,7 @@ returns c =
     let a = c.args in
     let k : length a.w.labels ≡ 64 = labels_length (goal.at.returns c).Start in
     four-parts a.out.now (format_numbers a.w.format) _ a.w.labels _ c.requires (length-format a.w.format) refl k refl
-    (rw c.format_numbers-numbers.ensures at c.put.ensures)
+    (rw c.format_numbers.ensures at c.put.ensures)
     (rw (c.order_number.ensures, c.layout_kind.ensures, c.layout_tag.ensures) at c.put-2.ensures)
     c.put_words.ensures
-    (rw (c.flag.ensures, c.flag-2.ensures, c.flag-3.ensures) at c.put-3.ensures)
+    (rw (c.flag.ensures, c.flag-2.ensures, c.from.ensures, c.flag-3.ensures) at c.put-3.ensures)

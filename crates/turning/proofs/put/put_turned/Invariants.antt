@@ -1,21 +1,17 @@
-use mathlib.Core.Path.{◌≡◌, refl, sym, ap, ◌∙◌}
-use mathlib.Core.List.{List}
-use Prim.Native.Nat.{ℕ, ◌≤◌, ◌-◌, ◌%◌, ◌+◌}
-use native.Mathlib.Omega.{arith}
-use lib.ListN.{length, take, drop, length-take, length-drop}
-use lib.Seq.{take_all}
+use Rattle.std.proofs.Common.{◌≡◌, ◌-◌, ◌%◌, ◌≤◌, length, take, drop}
+use Rattle.std.specs.Slice.Iter.{chunks_rest, chunks_size}
 use Rattle.byte_order.specs.Splice.{splice}
-use Rattle.byte_order.proofs.Laws.{splice-nil}
-use Rattle.format.specs.declared.Endianness.TheVariants.{BigEndian}
-use Rattle.pcm.specs.Unpacking.{unpack_into}
 use Rattle.turning.specs.Turned.{turned}
-use Rattle.turning.proofs.Turns.{part_bytes, turn-put, next-turn}
-use borrow.Author.Rules.{rules}
 use Rattle.turning.proofs.put.put_turned.Given as goal
 
-abbrev pub invariant-loop-p : goal.invariant-loop-p
-invariant-loop-p l =
-    (l.p ≤ length l.samples) × (l.p % 3 ≡ 0) × (length l.numbers ≡ 256) × (length l.out ≡ length l.initial.out) × (l.out ≡ splice l.initial.out l.at (turned (take l.p l.samples)))
-
-abbrev pub decreases-loop-p : goal.decreases-loop-p
-decreases-loop-p l = length l.samples - l.p
+abbrev pub invariant-loop-block : goal.invariant-loop-block
+invariant-loop-block l =
+    (goal.iterator-loop-block).can_next l.block-iterator
+    × (goal.iterator-loop-block).is_finite l.block-iterator
+    × (chunks_size l.block-iterator ≡ 768)
+    × (length l.numbers ≡ 256)
+    × (l.at ≤ l.place)
+    × (l.place - l.at ≤ length l.samples)
+    × ((l.place - l.at) % 3 ≡ 0)
+    × (chunks_rest l.block-iterator ≡ drop (l.place - l.at) l.samples)
+    × (l.out ≡ splice l.initial.out l.at (turned (take (l.place - l.at) l.samples)))

@@ -1,10 +1,14 @@
-use native.Mathlib.Omega.{arith}
-use Rattle.numbers.proofs.Puts.{put-fits}
-use Rattle.wave_numbers.specs.WaveNumbers.{plan_numbers}
-use borrow.Author.Rules.{rules}
+use Rattle.std.proofs.Common.{arith}
+use Rattle.std.proofs.lemmas.Grind.{common_steps}
+use Rattle.std.proofs.lemmas.Result.{err_from_is_err_and}
 use Rattle.wave_numbers.proofs.heads.put_plan.Goals as goal
 
-pub returns : goal.returns
-returns c =
-    let a = c.args in
-    put-fits a.out.now 0 (plan_numbers a.made a.info) (omega (arith, c.requires)) (rw (c.order_number.ensures, c.endianness_for-endianness.ensures) at c.put.ensures)
+pub returns-in_err-head : goal.returns-in_err-head
+returns-in_err-head c =
+    let p = err_from_is_err_and c.from_residual-in_err-head.result c.from_residual-in_err-head.ensures.1 in
+    rw (p.1, p.2) (record { number = grind (arith, common_steps); stored = grind (arith, common_steps); told = grind (arith, common_steps) })
+
+pub returns-in_err-put_head : goal.returns-in_err-put_head
+returns-in_err-put_head c =
+    let p = err_from_is_err_and c.from_residual-in_err-put_head.result c.from_residual-in_err-put_head.ensures.1 in
+    rw (p.1, p.2) (record { number = grind (arith, common_steps); stored = grind (arith, common_steps); told = grind (arith, common_steps) })

@@ -1,9 +1,17 @@
+use Rattle.std.proofs.Common.{Ok, Err, refl}
+use Rattle.std.proofs.lemmas.Result.{err_from_is_err_and}
+use Rattle.writer.specs.Shapes.{resumed_of}
+use Rattle.writer.proofs.Tests.{refusal-not_done}
 use Rattle.writer.proofs.Reopening.{refused-counted, done-counted}
-use borrow.Author.Rules.{rules}
 use Rattle.writer.proofs.CAFWriter.from_existing_file_counted.Goals as goal
 
-pub returns-then-found-ne-DONE : goal.returns-then-found-ne-DONE
-returns-then-found-ne-DONE c = refused-counted c.look-found.result c.args.buf.now c.args.file_len c.look-found.ensures c.args.n c.if-found-ne-DONE.true
+pub returns-in_err-found : goal.returns-in_err-found
+returns-in_err-found c =
+    let a = c.args in
+    let p = err_from_is_err_and c.from_residual.result c.from_residual.ensures.1 in
+    rw (p.1, p.2) (refused-counted (resumed_of (Err c.in_err-found.field-0.0)) a.buf.now a.file_len c.in_err-found.ensures a.n (refusal-not_done _))
 
 pub returns : goal.returns
-returns c = done-counted c.look-found.result c.args.buf.now c.args.file_len c.look-found.ensures c.args.n c.if-found-ne-DONE.false c.put_open_size-stores.result _ c.put_open_size-stores.ensures.0 c.put_open_size-stores.ensures.1
+returns c =
+    let a = c.args in
+    done-counted (resumed_of (Ok c.in_ok-found.found)) a.buf.now a.file_len c.in_ok-found.ensures a.n refl c.put_open_size.result _ c.put_open_size.ensures.0 c.put_open_size.ensures.1

@@ -1,42 +1,25 @@
-use mathlib.Core.Path.{◌≡◌, refl, sym, ◌∙◌, ap}
+use Rattle.std.proofs.Common.{◌≡◌, [], refl, ap, ◌∙◌}
+use Rattle.std.proofs.lemmas.Result.{err_from_is_err_and, IfOk-at_ok}
 use Rattle.format.specs.Setting.{pcm_format, format_number}
-use Rattle.format.specs.FormatAnswers as F
 use Rattle.format.specs.declared.AudioFormat.{AudioFormat}
-use Rattle.format.proofs.SettingAnswers.{setting-number, setting-given, setting-refused}
 use Rattle.writer.specs.Record.{with_format}
-use Rattle.writer.specs.Settings.{format_call}
-use Rattle.writer.proofs.Settling.{refused-answer, done-answer, refused-first, own-counts}
-use borrow.Author.Rules.{rules}
+use Rattle.writer.specs.Outcome.{stores}
+use Rattle.writer.specs.Settings.{setting_number, format_call}
+use Rattle.writer.proofs.Handing.{refused-answer, done-answer, goes-on}
 use Rattle.writer.proofs.CAFWriter.set_audio_format_with_options.Goals as goal
 
-pub returns-then-first-ne-DONE : goal.returns-then-first-ne-DONE
+pub returns-in_err-format : goal.returns-in_err-format
 unfolding format_call
-returns-then-first-ne-DONE c =
+returns-in_err-format c =
     let a = c.args in
-    let w = a.self in
-    let own = format_number a.sample_rate a.channels a.bits_per_channel a.endianness in
-    let after = with_format w (pcm_format a.sample_rate a.channels a.bits_per_channel a.data_type a.endianness) a.endianness in
-    let h = c.if-first-ne-DONE.true in
-    refused-answer own w after (refused-first own w c.settling-first.ensures h) h
-
-pub returns-in_default : goal.returns-in_default
-unfolding format_call
-returns-in_default c =
-    let a = c.args in
-    let w = a.self in
-    let own = format_number a.sample_rate a.channels a.bits_per_channel a.endianness in
-    let after = with_format w (pcm_format a.sample_rate a.channels a.bits_per_channel a.data_type a.endianness) a.endianness in
-    let r = setting-refused a.sample_rate a.channels a.bits_per_channel a.data_type a.endianness c.in_default.field-0 (sym c.pcm_format-set.ensures ∙ c.in_default.is) in
-    let n : c.setting_number.result ≡ own = c.setting_number.ensures ∙ ap F.setting_number c.pcm_format-set.ensures ∙ setting-number a.sample_rate a.channels a.bits_per_channel a.data_type a.endianness in
-    refused-answer own w after (n ∙ own-counts own w c.settling-first.ensures c.if-first-ne-DONE.false) (λ z. r.1 (sym n ∙ z))
+    let f = pcm_format a.sample_rate a.channels a.bits_per_channel a.data_type a.endianness in
+    let p = err_from_is_err_and c.from_residual.result c.from_residual.ensures.1 in
+    rw (p.1, p.2) (refused-answer a.self (setting_number a.self (format_number a.sample_rate a.channels a.bits_per_channel a.endianness)) (stores 0 [] (with_format a.self f a.endianness)) c.formatted.result c.formatted.ensures.number _ c.in_err-format.ensures)
 
 pub returns : goal.returns
 unfolding format_call
 returns c =
     let a = c.args in
-    let w = a.self in
-    let own = format_number a.sample_rate a.channels a.bits_per_channel a.endianness in
-    let after = with_format w (pcm_format a.sample_rate a.channels a.bits_per_channel a.data_type a.endianness) a.endianness in
-    let g = setting-given a.sample_rate a.channels a.bits_per_channel a.data_type a.endianness c.in-Format.format (sym c.pcm_format-set.ensures ∙ c.in-Format.is) in
-    let is = sym g.0 ∙ own-counts own w c.settling-first.ensures c.if-first-ne-DONE.false in
-    done-answer own w after is refl (c.with_format-self.ensures ∙ ap (λ (x : AudioFormat). with_format w x a.endianness) (sym g.1))
+    let f = pcm_format a.sample_rate a.channels a.bits_per_channel a.data_type a.endianness in
+    let is = IfOk-at_ok (λ (x : AudioFormat). x ≡ f) (goes-on a.self c.formatted.result _ c.in_ok-format.ensures) c.formatted.ensures.format in
+    done-answer a.self (setting_number a.self (format_number a.sample_rate a.channels a.bits_per_channel a.endianness)) (stores 0 [] (with_format a.self f a.endianness)) c.formatted.result c.formatted.ensures.number _ c.in_ok-format.ensures (c.with_format-self.ensures ∙ ap (λ (x : AudioFormat). with_format a.self x a.endianness) is) refl

@@ -1,39 +1,22 @@
-use mathlib.Core.Path.{◌∙◌}
-use mathlib.Core.List.{[]}
+use Rattle.std.proofs.Common.{[], refl}
+use Rattle.std.proofs.lemmas.Result.{err_from_is_err_and}
 use Rattle.layout.specs.Setting.{tag_number}
 use Rattle.layout.specs.declared.ChannelLayout.TheVariants.{Tagged}
 use Rattle.writer.specs.Record.{with_layout}
-use Rattle.writer.specs.Settings.{tag_call}
-use Rattle.writer.proofs.Settling.{refused-answer, done-answer, refused-first, own-counts}
-use borrow.Author.Rules.{rules}
-use Rattle.layout.proofs.setting.tag_number.Reads as tag-number-reads
-use Rattle.writer.proofs.CAFWriter.settling.Reads as settling-reads
-use Rattle.writer.proofs.CAFWriter.with_layout.Reads as with-layout-reads
+use Rattle.writer.specs.Outcome.{stores}
+use Rattle.writer.specs.Settings.{setting_number, tag_call}
+use Rattle.writer.proofs.Handing.{refused-answer, done-answer}
 use Rattle.writer.proofs.CAFWriter.set_channel_layout_tag.Goals as goal
 
-pub returns-then-first-ne-DONE : goal.returns-then-first-ne-DONE
+pub returns-in_err-handing_back : goal.returns-in_err-handing_back
 unfolding tag_call
-returns-then-first-ne-DONE c =
+returns-in_err-handing_back c =
     let a = c.args in
-    let own = tag_number a.tag in
-    let after = with_layout a.self (Tagged a.tag) [] in
-    let h = c.if-first-ne-DONE.true in
-    refused-answer own a.self after (refused-first own a.self c.settling-first.ensures h) h
-
-pub returns-then-number-ne-DONE : goal.returns-then-number-ne-DONE
-unfolding tag_call
-returns-then-number-ne-DONE c =
-    let a = c.args in
-    let own = tag_number a.tag in
-    let after = with_layout a.self (Tagged a.tag) [] in
-    let is = c.tag_number-number.ensures ∙ own-counts own a.self c.settling-first.ensures c.if-first-ne-DONE.false in
-    refused-answer own a.self after is c.if-number-ne-DONE.true
+    let p = err_from_is_err_and c.from_residual.result c.from_residual.ensures.1 in
+    rw (p.1, p.2) (refused-answer a.self (setting_number a.self (tag_number a.tag)) (stores 0 [] (with_layout a.self (Tagged a.tag) [])) c.may_be_tagged.result c.may_be_tagged.ensures _ c.in_err-handing_back.ensures)
 
 pub returns : goal.returns
 unfolding tag_call
 returns c =
     let a = c.args in
-    let own = tag_number a.tag in
-    let after = with_layout a.self (Tagged a.tag) [] in
-    let is = c.tag_number-number.ensures ∙ own-counts own a.self c.settling-first.ensures c.if-first-ne-DONE.false in
-    done-answer own a.self after is c.if-number-ne-DONE.false c.with_layout-self.ensures
+    done-answer a.self (setting_number a.self (tag_number a.tag)) (stores 0 [] (with_layout a.self (Tagged a.tag) [])) c.may_be_tagged.result c.may_be_tagged.ensures _ c.in_ok-handing_back.ensures c.with_layout-self.ensures refl

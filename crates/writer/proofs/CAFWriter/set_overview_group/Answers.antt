@@ -1,16 +1,20 @@
-use borrow.Author.Tests.{lt-ltb, le-ltb}
+use Rattle.std.proofs.Common.{[], refl}
+use Rattle.std.proofs.lemmas.Result.{err_from_is_err_and}
+use Rattle.writer.specs.Record.{with_group}
+use Rattle.writer.specs.Outcome.{stores}
 use Rattle.writer.specs.Settings.{group_number, group_call}
-use borrow.Author.Rules.{rules}
+use Rattle.writer.proofs.Handing.{refused-answer, done-answer}
 use Rattle.writer.proofs.CAFWriter.set_overview_group.Goals as goal
 
-pub returns-then-not-is_sound_alone : goal.returns-then-not-is_sound_alone
-unfolding group_call group_number
-returns-then-not-is_sound_alone c = rw (← c.is_sound_alone.ensures, c.if-not-is_sound_alone.true)
-
-pub returns-then-self-gt0 : goal.returns-then-self-gt0
-unfolding group_call group_number
-returns-then-self-gt0 c = rw (← c.is_sound_alone.ensures, c.if-not-is_sound_alone.false, lt-ltb _ _ c.if-self-gt0.true)
+pub returns-in_err-handing_back : goal.returns-in_err-handing_back
+unfolding group_call
+returns-in_err-handing_back c =
+    let a = c.args in
+    let p = err_from_is_err_and c.from_residual.result c.from_residual.ensures.1 in
+    rw (p.1, p.2) (refused-answer a.self (group_number a.self) (stores 0 [] (with_group a.self a.group)) c.choosing.result c.choosing.ensures _ c.in_err-handing_back.ensures)
 
 pub returns : goal.returns
-unfolding group_call group_number
-returns c = rw (← c.is_sound_alone.ensures, c.if-not-is_sound_alone.false, le-ltb _ _ c.if-self-gt0.false)
+unfolding group_call
+returns c =
+    let a = c.args in
+    done-answer a.self (group_number a.self) (stores 0 [] (with_group a.self a.group)) c.choosing.result c.choosing.ensures _ c.in_ok-handing_back.ensures refl refl

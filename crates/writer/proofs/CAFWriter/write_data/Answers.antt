@@ -1,30 +1,35 @@
-use mathlib.Core.Path.{refl}
-use native.Mathlib.Omega.{arith}
-use lib.ListN.{length}
+use Rattle.std.proofs.Common.{ℕ, length, arith, sym, ◌∙◌, ap}
+use Rattle.std.proofs.lemmas.Result.{err_from_is_err_and}
+use Rattle.writer.specs.Record.{with_data}
+use Rattle.writer.proofs.Handing.{refused-number, done-number}
 use Rattle.writer.proofs.Whole.{data-refused, data-buffer, data-fits, data-answer}
-use borrow.Author.Rules.{rules}
 use Rattle.writer.proofs.CAFWriter.write_data.Goals as goal
 
-pub returns-then-done-ne-DONE : goal.returns-then-done-ne-DONE
-returns-then-done-ne-DONE c =
+pub returns-in_err-done : goal.returns-in_err-done
+returns-in_err-done c =
     let a = c.args in
     let room = length a.buf.now in
-    (data-refused a.self room a.«data».now c.write_data_counted-done.result c.write_data_counted-done.ensures.0 c.if-done-ne-DONE.true, data-buffer a.self room a.«data».now a.buf.now _ c.write_data_counted-done.ensures.1)
+    let given = c.write_data_counted-counted.ensures in
+    let p = err_from_is_err_and c.from_residual.result c.from_residual.ensures.1 in
+    let n = refused-number a.self c.write_data_counted-counted.result _ c.in_err-done.ensures in
+    rw (p.1, p.2) (n.1 ∙ data-refused a.self room a.«data».now _ given.0 n.0, data-buffer a.self room a.«data».now a.buf.now _ given.1)
 
 pub overflow_add-self : goal.overflow_add-self
 overflow_add-self c =
     let a = c.args in
-    let room = length a.buf.now in
-    omega (arith, (data-fits a.self room a.«data».now c.write_data_counted-done.result c.write_data_counted-done.ensures.0 c.if-done-ne-DONE.false).0)
+    let n = done-number a.self c.write_data_counted-counted.result _ c.in_ok-done.ensures in
+    omega (arith, n.1, (data-fits a.self (length a.buf.now) a.«data».now _ c.write_data_counted-counted.ensures.0 n.0).0)
 
 pub overflow_add-self-2 : goal.overflow_add-self-2
 overflow_add-self-2 c =
     let a = c.args in
-    let room = length a.buf.now in
-    omega (arith, (data-fits a.self room a.«data».now c.write_data_counted-done.result c.write_data_counted-done.ensures.0 c.if-done-ne-DONE.false).1)
+    let n = done-number a.self c.write_data_counted-counted.result _ c.in_ok-done.ensures in
+    omega (arith, n.1, (data-fits a.self (length a.buf.now) a.«data».now _ c.write_data_counted-counted.ensures.0 n.0).1)
 
 pub returns : goal.returns
 returns c =
     let a = c.args in
     let room = length a.buf.now in
-    (data-answer a.self room a.«data».now c.write_data_counted-done.result c.write_data_counted-done.ensures.0 c.if-done-ne-DONE.false _ refl, data-buffer a.self room a.«data».now a.buf.now _ c.write_data_counted-done.ensures.1)
+    let given = c.write_data_counted-counted.ensures in
+    let n = done-number a.self c.write_data_counted-counted.result _ c.in_ok-done.ensures in
+    (data-answer a.self room a.«data».now _ given.0 n.0 _ (ap (λ (k : ℕ). with_data a.self k) (sym n.1)), data-buffer a.self room a.«data».now a.buf.now _ given.1)

@@ -1,9 +1,0 @@
-use lib.Dec.{lit<}
-use borrow.Author.Rules.{rules}
-use Rattle.byte_order.proofs.Budget.{put-done}
-use Rattle.byte_order.proofs.put.put_u32.Goals as goal
-
-pub returns : goal.returns
-returns c =
-    let a = c.args in
-    put-done 4 a.v a.at a.buf.now (lit< tt) c.u32_bytes-bytes.ensures c.store.ensures

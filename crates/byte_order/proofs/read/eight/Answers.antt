@@ -1,7 +1,0 @@
-use native.Mathlib.Nat.{add-zero}
-use mathlib.Core.Path.{◌∙◌}
-use borrow.Author.Rules.{rules}
-use Rattle.byte_order.proofs.read.eight.Goals as goal
-
-pub returns : goal.returns
-returns c = c.u64_of.ensures ∙ rw add-zero

@@ -1,0 +1,38 @@
+// How many cases of a sample have the answer that is wanted.
+use crate::frame::case_at;
+use std::fmt;
+
+#[derive(Clone, Copy)]
+pub struct Tally {
+    pub same: u64,
+    pub different: u64,
+}
+
+// Of every case of the sample, by its kind and its body.
+pub fn tally_of<F: Fn(u32, &[u8]) -> bool>(s: &[u8], is_same: F) -> Tally
+    requires { F.IsAlwaysCallable is_same }
+{
+    let mut same = 0;
+    let mut different = 0;
+    let mut at = 0;
+    while at < s.len() {
+        // of a case that is cut nothing follows
+        let Some(case) = case_at(s, at) else {
+            different += 1;
+            break;
+        };
+        if is_same(case.kind, &s[case.start..case.end]) {
+            same += 1;
+        } else {
+            different += 1;
+        }
+        at = case.end;
+    }
+    Tally { same, different }
+}
+
+impl fmt::Display for Tally {
+    fn fmt<W: fmt::Write>(&self, f: &mut fmt::Formatter<W>) -> fmt::Result {
+        write!(f, "the same {}\ndifferent {}", self.same, self.different)
+    }
+}

@@ -1,5 +1,0 @@
-use borrow.Author.Rules.{rules}
-use Rattle.comparing_numbers.proofs.told.field_numbers.Goals as goal
-
-pub returns : goal.returns
-returns c = rw (c.flag.ensures, c.flag-2.ensures, c.flag-3.ensures, c.flag-4.ensures, c.flag-5.ensures, c.flag-6.ensures, c.flag-7.ensures)

@@ -1,5 +1,0 @@
-use borrow.Author.Rules.{rules}
-use Rattle.feeder_numbers.proofs.feeder_to_numbers.passed_size.Goals as goal
-
-pub returns-in-Passed : goal.returns-in-Passed
-returns-in-Passed c = rw c.in-Passed.is
