@@ -2,3 +2,4 @@ pub mod Number
 pub mod List
 pub mod Frame
 pub mod Script
+pub mod Tally

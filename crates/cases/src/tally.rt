@@ -1,4 +1,7 @@
 // How many cases of a sample have the answer that is wanted.
+ghost use Rattle.std.specs.Prelude.{◌≡◌, ◌+◌};
+ghost use Rattle.cases.specs.Tally.{case_count};
+
 use crate::frame::case_at;
 use std::fmt;
 
@@ -11,6 +14,7 @@ pub struct Tally {
 // Of every case of the sample, by its kind and its body.
 pub fn tally_of<F: Fn(u32, &[u8]) -> bool>(s: &[u8], is_same: F) -> Tally
     requires { F.IsAlwaysCallable is_same }
+    ensures { result.same + result.different ≡ case_count s.now }
 {
     let mut same = 0;
     let mut different = 0;
