@@ -11,9 +11,13 @@ pub struct Tally {
     pub different: u64,
 }
 
-// Of every case of the sample, by its kind and its body.
-pub fn tally_of<F: Fn(u32, &[u8]) -> bool>(s: &[u8], is_same: F) -> Tally
-    requires { F.IsAlwaysCallable is_same }
+// A replay: it tells of a case, by its kind and its body, whether our answer is the one that is wanted.
+pub trait Replay {
+    fn is_same(&self, kind: u32, body: &[u8]) -> bool;
+}
+
+// Of every case of the sample.
+pub fn tally_of<R: Replay>(s: &[u8], replay: &R) -> Tally
     ensures { result.same + result.different ≡ case_count s.now }
 {
     let mut same = 0;
@@ -25,7 +29,7 @@ pub fn tally_of<F: Fn(u32, &[u8]) -> bool>(s: &[u8], is_same: F) -> Tally
             different += 1;
             break;
         };
-        if is_same(case.kind, &s[case.start..case.end]) {
+        if replay.is_same(case.kind, &s[case.start..case.end]) {
             same += 1;
         } else {
             different += 1;

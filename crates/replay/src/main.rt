@@ -6,7 +6,7 @@ mod labels;
 mod readings;
 mod samples;
 
-use cases::tally::tally_of;
+use cases::tally::{Replay, tally_of};
 use labels::same_labels;
 use readings::same_reading;
 use samples::same_samples;
@@ -23,17 +23,21 @@ const SAMPLES: u32 = b'S' as u32;
 // Of a longer input the first bytes are replayed.
 const MOST: usize = 65_536;
 
-fn same_case(kind: u32, body: &[u8]) -> bool {
-    match kind {
-        LABELS => same_labels(body),
-        READING => same_reading(body),
-        SAMPLES => same_samples(body),
-        _ => false,
+struct AnswerReplay;
+
+impl Replay for AnswerReplay {
+    fn is_same(&self, kind: u32, body: &[u8]) -> bool {
+        match kind {
+            LABELS => same_labels(body),
+            READING => same_reading(body),
+            SAMPLES => same_samples(body),
+            _ => false,
+        }
     }
 }
 
 fn main(rt: HostRuntime) -> io::Result<()> {
     let mut input = [0; MOST];
     let n = fill(&rt, &mut input)?;
-    println!(rt; "{}", tally_of(&input[..n], same_case))
+    println!(rt; "{}", tally_of(&input[..n], &AnswerReplay))
 }

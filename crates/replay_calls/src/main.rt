@@ -5,7 +5,7 @@
 mod calls;
 mod scripts;
 
-use cases::tally::tally_of;
+use cases::tally::{Replay, tally_of};
 use scripts::same_script;
 use show::fill;
 use std::io;
@@ -16,12 +16,16 @@ const SCRIPT: u32 = b'W' as u32;
 // Of a longer input the first bytes are replayed.
 const MOST: usize = 65_536;
 
+struct ScriptReplay;
+
+impl Replay for ScriptReplay {
+    fn is_same(&self, kind: u32, body: &[u8]) -> bool {
+        kind == SCRIPT && same_script(body)
+    }
+}
+
 fn main(rt: HostRuntime) -> io::Result<()> {
     let mut input = [0; MOST];
     let n = fill(&rt, &mut input)?;
-    let tally = tally_of(
-        &input[..n],
-        |kind, body| kind == SCRIPT && same_script(body),
-    );
-    println!(rt; "{tally}")
+    println!(rt; "{}", tally_of(&input[..n], &ScriptReplay))
 }

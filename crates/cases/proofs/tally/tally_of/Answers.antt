@@ -1,9 +1,8 @@
-use Rattle.std.proofs.Common.{◌≡◌, ℕ, zero, suc, ◌+◌, ◌-◌, ◌<◌, ◌≤◌, List, length, Option, Some, None, refl, sym, ap, ◌∙◌, arith}
-use borrow.Author.Tests.{lt-ltb, le-ltb}
+use Rattle.std.proofs.Common.{◌≡◌, ℕ, suc, ◌+◌, ◌-◌, ◌<◌, ◌≤◌, List, length, Option, Some, sym, ap, ◌∙◌, arith}
+use borrow.Author.Tests.{lt-ltb}
 use Rattle.cases.specs.Frame.{case_at}
 use Rattle.cases.specs.declared.frame.Case.{Case}
 use Rattle.cases.specs.Tally.{after, cases_from, case_count}
-use Rattle.cases.proofs.tally.tally_of.Goals.{else-loop-at-test, then-loop-at-test+in_default}
 use Rattle.cases.proofs.tally.tally_of.Goals as goal
 
 -- a case is one of those that are left, and the others come after it
@@ -13,11 +12,6 @@ one s n at o h k e =
     let m : length s - n ≡ suc (length s - (n + 1)) = omega arith in
     ap (λ (j : ℕ). cases_from j s at) m
     ∙ rw (lt-ltb at (length s) k) (ap (λ (x : Option Case). 1 + after (λ (p : ℕ). cases_from (length s - (n + 1)) s p) x) e)
-
--- past the end there are none
-none : (k : ℕ) (s : List ℕ) (at : ℕ) → length s ≤ at → cases_from k s at ≡ 0
-none zero s at h = refl
-none (suc k) s at h = rw (le-ltb at (length s) h)
 
 counted : (s : List ℕ) (n at total : ℕ) (c : Case) (m : ℕ) → m ≡ n + 1 → n ≤ at → at < length s → case_at s at ≡ Some c
     → total ≡ n + cases_from (length s - n) s at → total ≡ m + cases_from (length s - m) s c.end
@@ -45,13 +39,3 @@ loop-at-preserved g c =
       within = omega (arith, c.in-Some.ensures.within);
       counted = counted c.args.s.now (l.same + l.different) l.at _ c.in-Some.case (l.same + (l.different + 1)) (omega arith) l.invariant.within c.loop-at-test.true (sym c.case_at.ensures.value ∙ c.in-Some.is) l.invariant.counted;
     }
-
-pub returns : goal.returns
-returns g c =
-    let s = c.args.s.now in
-    let l = c.loop-at in
-    let n : ℕ = l.same + l.different in
-    elim c.loop-at-test.branch [
-      | else-loop-at-test w ↦ (let z = none (length s - n) s l.at w.loop-at-test.false in omega (arith, w.different-is, l.invariant.counted, z))
-      | then-loop-at-test+in_default w ↦ (let o = one s n l.at None l.invariant.within w.loop-at-test.true (sym w.case_at.ensures.value ∙ w.in_default.is) in omega (arith, w.different-is, l.invariant.counted, o))
-    ]
