@@ -1,9 +1,10 @@
 // The sessions of a film, made one after the other, the last call of each cut.
 use answers::Refusal;
-use answers::refusal::DONE;
+use answers::refusal::{DONE, number_of};
 use cut_films::calls::{cut_last, with_bytes, with_samples};
 use cut_films::film::{Film, LastCall, LayoutBy, SESSIONS, Session, then};
 use cut_films::settings::with_settings;
+use writer::budget::counts_of;
 use writer::record::handed_back;
 use writer::{CAFWriter, Counted};
 
@@ -19,19 +20,12 @@ pub(crate) struct Left {
 }
 
 impl Left {
-    // A refused call stores nothing, and leaves the file as long as it was.
     fn by(answer: Result<Counted, Refusal>, len: usize) -> Left {
-        match answer {
-            Ok(done) => Left {
-                number: DONE,
-                stores: done.stores,
-                file_len: done.file_len,
-            },
-            Err(refusal) => Left {
-                number: refusal.number(),
-                stores: 0,
-                file_len: len,
-            },
+        let counts = counts_of(answer, len);
+        Left {
+            number: number_of(answer.map(|_| ())),
+            stores: counts.stores,
+            file_len: counts.file_len,
         }
     }
 }

@@ -13,6 +13,7 @@ use answers::refusal::DONE;
 use numbers::lent_numbers::put;
 use record_numbers::record_from_numbers::record_in;
 use writer::Counted;
+use writer::budget::counts_of;
 
 const COUNTED_PLACES: usize = 2;
 
@@ -20,15 +21,11 @@ fn tell(out: &mut [u64], file_len: usize, outcome: Result<Counted, Refusal>) -> 
     requires { counted_places ≤ length out.old }
     ensures { (result ≡ (counted_of file_len outcome).number) × (out.new ≡ splice out.old 0 (counted_numbers (counted_of file_len outcome))) }
 {
+    let counts = counts_of(outcome, file_len);
+    put(out, 0, &[counts.stores as u64, counts.file_len as u64]);
     match outcome {
-        Ok(done) => {
-            put(out, 0, &[done.stores as u64, done.file_len as u64]);
-            DONE
-        }
-        Err(refusal) => {
-            put(out, 0, &[0, file_len as u64]);
-            refusal.number()
-        }
+        Ok(_) => DONE,
+        Err(refusal) => refusal.number(),
     }
 }
 

@@ -13,6 +13,7 @@ use reading::RefusedFile;
 use record_numbers::places::{DATA_COUNT, FINISHED, RECORD};
 use record_numbers::record_from_numbers::is_record;
 use record_numbers::record_to_numbers::put_record;
+use writer::resume::resumed_back;
 use writer::{CAFWriter, CAFWriterStats, CountedResume};
 
 const STATS_PLACES: usize = 2;
@@ -38,14 +39,14 @@ pub fn resume(buf: &mut [u8], file_len: u64, held: &mut [u64], chunks: &mut [u64
     if chunks.is_empty() {
         return Refusal::NoRoom.number();
     }
-    match CAFWriter::from_existing_file(buf, file_len as usize) {
+    let answer = CAFWriter::from_existing_file(buf, file_len as usize);
+    put_record(held, resumed_back(answer));
+    match answer {
         Ok(resumed) => {
-            put_record(held, resumed.writer);
             put(chunks, 0, &[resumed.chunks as u64]);
             DONE
         }
         Err(refused) => {
-            put_record(held, CAFWriter::new());
             put(chunks, 0, &[refused.chunks as u64]);
             refused.refusal.number()
         }

@@ -8,6 +8,7 @@ use cases::list::{labels_at, samples_at};
 use cases::number::{byte, count, data_type, order};
 use cases::script::{CallKind, INNER, bytes_at, kind_of};
 use reading::RefusedFile;
+use writer::resume::resumed_back;
 use writer::{CAFWriter, Counted, RefusedCall, ResumedFile};
 
 // What stands after a call: its number and its count, the writer and its file.
@@ -41,15 +42,13 @@ fn wrote(answer: Result<CAFWriter, RefusedCall>) -> Done {
 
 // Beside a refused resume stands a fresh writer.
 fn resumed(answer: Result<ResumedFile, RefusedFile>) -> Done {
-    match answer {
-        Ok(found) => Done {
-            count: found.chunks,
-            ..left(DONE, found.writer)
-        },
-        Err(refused) => Done {
-            count: refused.chunks,
-            ..left(refused.refusal.number(), CAFWriter::new())
-        },
+    let (number, count) = match answer {
+        Ok(found) => (DONE, found.chunks),
+        Err(refused) => (refused.refusal.number(), refused.chunks),
+    };
+    Done {
+        count,
+        ..left(number, resumed_back(answer))
     }
 }
 
