@@ -1,7 +1,7 @@
 // Why a call is refused: an error enum, whose values are the numbers of documents 01 and 02. C is told the number.
 ghost use Rattle.std.specs.Prelude.{◌≡◌};
 ghost use Rattle.answers.specs.Numbers.{numbers};
-ghost use Rattle.answers.specs.Refused.{refusal_number, outcome_number};
+ghost use Rattle.answers.specs.Refused.{refusal_number, outcome_number, refusals};
 
 #[derive(Clone, Copy, Debug, PartialEq, Eq)]
 pub enum Refusal {
@@ -59,6 +59,47 @@ pub fn number_of(outcome: Result<(), Refusal>) -> u32
         Ok(()) => DONE,
         Err(refusal) => refusal.number(),
     }
+}
+
+// Every refusal, in the order of the numbers.
+pub fn all_refusals() -> [Refusal; 33]
+    ensures { result ≡ refusals }
+{
+    [
+        Refusal::CutShort,
+        Refusal::NotCaf,
+        Refusal::NoData,
+        Refusal::BadSize,
+        Refusal::BadRate,
+        Refusal::BadVersion,
+        Refusal::BadDesc,
+        Refusal::DataPastEnd,
+        Refusal::DataEndsEarly,
+        Refusal::Finished,
+        Refusal::NoHeader,
+        Refusal::HeaderAlready,
+        Refusal::NoFormat,
+        Refusal::NoRoom,
+        Refusal::PacketTooBig,
+        Refusal::BadLabel,
+        Refusal::TooManyLabels,
+        Refusal::BadTag,
+        Refusal::BadWriter,
+        Refusal::OddLength,
+        Refusal::TooLong,
+        Refusal::BadLayout,
+        Refusal::SecondData,
+        Refusal::TailAfterData,
+        Refusal::NotClosed,
+        Refusal::NoGroup,
+        Refusal::WrongWidth,
+        Refusal::BadTray,
+        Refusal::NotForWave,
+        Refusal::CannotCompare,
+        Refusal::LittleRetired,
+        Refusal::BadWave,
+        Refusal::DataBegun,
+    ]
 }
 
 // The numbers, in ascending order: 0, and that of each refusal.

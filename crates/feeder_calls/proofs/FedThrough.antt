@@ -11,6 +11,7 @@ use lib.Seq.{take_all}
 use lib.Dec.{eqb}
 use borrow.Author.Tests.{eq-eqb, ne_eqb}
 use Rattle.answers.specs.Numbers.{bad_writer, too_long}
+use Rattle.answers.specs.Refused.{number-tells}
 use Rattle.byte_order.specs.Big.{big_at, big_bytes}
 use Rattle.format.specs.declared.AudioFormat.{AudioFormat}
 use Rattle.reading.specs.Claims.{Bytes}
@@ -78,7 +79,7 @@ module _ (h : List ℕ) (n t k : ℕ) (l : length h ≡ 32) (b : Bytes h) where
   at_back (Edit f size) p = with-format f (λ x. Edit x size) p
   at_back (OpenData f start) p = with-format f (λ x. OpenData x start) p
   at_back (ClosedData f chunk m) p = with-format f (λ x. ClosedData x chunk m) p
-  at_back (Refused reason) p = rw p (with-phase (Refused reason) (Refused reason) refl)
+  at_back (Refused reason) p = rw (number-tells reason) (with-phase (Refused reason) (Refused reason) refl)
 
 pub numbers-back : (r : Feeder) → TypedFeeder r → feeder_of (feeder_numbers r) ≡ Some r
 numbers-back r t = at_back r.held r.count r.total r.chunks t.long t.bytes r.phase t.phase

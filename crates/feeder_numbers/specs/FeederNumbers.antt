@@ -1,10 +1,7 @@
 -- Document 02, T-01 and T-05: the feeding record as C keeps it between calls: an array of 18 numbers of 64 bits.
 use Rattle.std.specs.Prelude.{ℕ, cond, ◌&&◌, List, [], ◌∷◌, ◌++◌, length, take, drop, replicate, eqb, Option, Some, None}
-use Rattle.std.specs.List.{find}
 use Rattle.std.specs.Option.{option_map}
-use Rattle.answers.specs.Refused.{refusal_number}
-use Rattle.answers.specs.declared.refusal.Refusal.{Refusal}
-use Rattle.answers.specs.declared.refusal.Refusal.TheVariants.{NotCaf, BadSize, BadRate, BadVersion, BadDesc, SecondData, TooLong}
+use Rattle.answers.specs.Refused.{refusal_number, refusal_for}
 use Rattle.byte_order.specs.Big.{big_at, big_bytes}
 use Rattle.feeder.specs.declared.Phase.{Phase}
 use Rattle.feeder.specs.declared.Phase.TheVariants.{FileHeader, FirstHeader, Desc, Header, Skipping, Edit, OpenData, ClosedData, Refused}
@@ -102,18 +99,11 @@ feeder_numbers r =
 abbrev pub feeder_places : ℕ
 feeder_places = 18
 
--- the refusals that a phase may hold: those that the bytes give, and TooLong; and the one of a number
-abbrev pub reasons : List Refusal
-reasons = NotCaf ∷ BadVersion ∷ BadDesc ∷ BadRate ∷ BadSize ∷ SecondData ∷ TooLong ∷ []
-
-abbrev pub reason_of : ℕ → Option Refusal
-reason_of n = find (λ r. eqb (refusal_number r) n) reasons
-
 -- the closed data chunk that an array tells
 abbrev pub chunk_of : List ℕ → DataChunk
 chunk_of ns = record { size = at ns 9; start = at ns 10 }
 
--- and the phase, where there is one of its number
+-- and the phase, where there is one of its number, and for a refused one a refusal of the number beside it
 unfoldable pub phase_of : List ℕ → Option Phase
 phase_of ns =
     cond (eqb (at ns 0) 0) (Some FileHeader)
@@ -123,7 +113,7 @@ phase_of ns =
     (cond (eqb (at ns 0) 4) (Some (Skipping (audio_of ns) None (at ns 8)))
     (cond (eqb (at ns 0) 5) (Some (Edit (audio_of ns) (at ns 9)))
     (cond (eqb (at ns 0) 6) (Some (OpenData (audio_of ns) (at ns 10)))
-    (cond (eqb (at ns 0) 7) (option_map Refused (reason_of (at ns 8)))
+    (cond (eqb (at ns 0) 7) (option_map Refused (refusal_for (at ns 8)))
     (cond (eqb (at ns 0) 8) (Some (Header (audio_of ns) (Some (chunk_of ns))))
     (cond (eqb (at ns 0) 9) (Some (Skipping (audio_of ns) (Some (chunk_of ns)) (at ns 8)))
     (cond (eqb (at ns 0) 10) (Some (ClosedData (audio_of ns) (chunk_of ns) (at ns 8)))
