@@ -11,7 +11,6 @@ pub mod settings;
 pub mod writing;
 
 use answers::Refusal;
-use writer::record::{handed_back, outcome_of};
 use writer::{CAFWriter, RefusedCall};
 
 // Stores the record that a call handed back.
@@ -19,6 +18,14 @@ fn keep(w: &mut CAFWriter, answer: Result<CAFWriter, RefusedCall>) -> Result<(),
     ensures number { outcome_number result ≡ (wrote_of answer).number }
     ensures writer { w.new ≡ (wrote_of answer).writer }
 {
-    *w = handed_back(answer);
-    outcome_of(answer)
+    match answer {
+        Ok(writer) => {
+            *w = writer;
+            Ok(())
+        }
+        Err(refused) => {
+            *w = refused.writer;
+            Err(refused.refusal)
+        }
+    }
 }

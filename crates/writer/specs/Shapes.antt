@@ -39,11 +39,6 @@ abbrev pub wrote_of : Result CAFWriter RefusedCall → Wrote
 wrote_of (Ok w) = record { number = done; writer = w }
 wrote_of (Err e) = record { number = refusal_number e.refusal; writer = e.writer }
 
--- beside a refusal a call hands back the record that it got
-abbrev pub handed_with : {A : Type 0} → CAFWriter → Result A Refusal → Result A RefusedCall
-handed_with w (Ok x) = Ok x
-handed_with w (Err e) = Err (record { refusal = e; writer = w })
-
 -- on a file of len bytes. A refused call has no stores, and leaves the file as long as it was
 abbrev pub counted_of : ℕ → Result in-code.Counted Refusal → Counted
 counted_of len (Ok c) = record { number = done; stores = c.stores; file_len = c.file_len }

@@ -32,10 +32,17 @@ impl CAFWriter {
         ensures { Gives (data_call self (length buf.old) «data».now) (wrote_of result) buf.old buf.new }
     {
         let counted = self.write_data_counted(buf, data, ALL);
-        let done = self.handing_back(counted)?;
-        self.file_len += done.stores;
-        self.data_count += done.stores;
-        Ok(self)
+        match counted {
+            Ok(done) => {
+                self.file_len += done.stores;
+                self.data_count += done.stores;
+                Ok(self)
+            }
+            Err(refusal) => Err(RefusedCall {
+                writer: self,
+                refusal,
+            }),
+        }
     }
 
     // The bytes of the samples, packed in the record's byte order. n counts bytes.
@@ -63,9 +70,16 @@ impl CAFWriter {
         ensures { Gives (samples_call self (length buf.old) samples.now) (wrote_of result) buf.old buf.new }
     {
         let counted = self.write_pcm_24bit_as_packed_counted(buf, samples, ALL);
-        let done = self.handing_back(counted)?;
-        self.file_len += done.stores;
-        self.data_count += done.stores;
-        Ok(self)
+        match counted {
+            Ok(done) => {
+                self.file_len += done.stores;
+                self.data_count += done.stores;
+                Ok(self)
+            }
+            Err(refusal) => Err(RefusedCall {
+                writer: self,
+                refusal,
+            }),
+        }
     }
 }

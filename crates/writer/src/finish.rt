@@ -42,8 +42,15 @@ impl CAFWriter {
         ensures { Gives (finish_call self (length buf.old)) (wrote_of result) buf.old buf.new }
     {
         let counted = self.finish_counted(buf, ALL);
-        self.handing_back(counted)?;
-        self.finished = true;
-        Ok(self)
+        match counted {
+            Ok(_) => {
+                self.finished = true;
+                Ok(self)
+            }
+            Err(refusal) => Err(RefusedCall {
+                writer: self,
+                refusal,
+            }),
+        }
     }
 }

@@ -1,20 +1,18 @@
 use Rattle.std.proofs.Common.{[], refl}
-use Rattle.std.proofs.lemmas.Result.{err_from_is_err_and}
 use Rattle.writer.specs.Record.{with_group}
 use Rattle.writer.specs.Outcome.{stores}
 use Rattle.writer.specs.Settings.{group_number, group_call}
 use Rattle.writer.proofs.Handing.{refused-answer, done-answer}
 use Rattle.writer.proofs.CAFWriter.set_overview_group.Goals as goal
 
-pub returns-in_err-handing_back : goal.returns-in_err-handing_back
+pub returns-in-Err : goal.returns-in-Err
 unfolding group_call
-returns-in_err-handing_back c =
+returns-in-Err c =
     let a = c.args in
-    let p = err_from_is_err_and c.from_residual.result c.from_residual.ensures.1 in
-    rw (p.1, p.2) (refused-answer a.self (group_number a.self) (stores 0 [] (with_group a.self a.group)) c.choosing.result c.choosing.ensures _ c.in_err-handing_back.ensures)
+    refused-answer a.self (group_number a.self) (stores 0 [] (with_group a.self a.group)) c.choosing.result c.choosing.ensures c.in-Err.refusal c.in-Err.is
 
-pub returns : goal.returns
+pub returns-in-Ok : goal.returns-in-Ok
 unfolding group_call
-returns c =
+returns-in-Ok c =
     let a = c.args in
-    done-answer a.self (group_number a.self) (stores 0 [] (with_group a.self a.group)) c.choosing.result c.choosing.ensures _ c.in_ok-handing_back.ensures refl refl
+    done-answer a.self (group_number a.self) (stores 0 [] (with_group a.self a.group)) c.choosing.result c.choosing.ensures c.in-Ok.field-0 c.in-Ok.is refl refl
