@@ -1,10 +1,19 @@
 -- The films of the program `cuts`: a layout, and the sessions in their order.
-use Rattle.std.specs.Prelude.{ℕ, ◌+◌, cond, ltb, replicate, set}
+use Rattle.std.specs.Prelude.{ℕ, ◌+◌, cond, [], ◌∷◌, ltb, get_or, replicate, set}
 use Rattle.cut_films.specs.declared.film.Film.{Film}
 use Rattle.cut_films.specs.declared.film.LayoutBy.{LayoutBy}
+use Rattle.cut_films.specs.declared.film.LayoutBy.TheVariants.{Nothing, Tag, Labels}
 use Rattle.cut_films.specs.declared.film.LastCall.{LastCall}
-use Rattle.cut_films.specs.declared.film.LastCall.TheVariants.{Begin}
+use Rattle.cut_films.specs.declared.film.LastCall.TheVariants.{Begin, OneByte, Samples, FinishEmpty, FinishByte, FinishSamples, FinishRun, FinishAgain}
 use Rattle.cut_films.specs.declared.film.Session.{Session}
+
+-- what a number says of the layout: 0 none, 1 a tag, any other labels
+abbrev pub layout_by : ℕ → LayoutBy
+layout_by n = get_or (Nothing ∷ Tag ∷ []) n Labels
+
+-- and of the last call: those from 0 to 7 in their order, any other a finish with no data before it
+abbrev pub last_call_by : ℕ → LastCall
+last_call_by n = get_or (Begin ∷ OneByte ∷ Samples ∷ FinishEmpty ∷ FinishByte ∷ FinishSamples ∷ FinishRun ∷ FinishAgain ∷ []) n FinishEmpty
 
 -- how many sessions a film has at most
 abbrev pub most_sessions : ℕ

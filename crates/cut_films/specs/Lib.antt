@@ -1,4 +1,5 @@
 pub mod Film
+pub mod Text
 pub mod Audio
 pub mod Settings
 pub mod Calls

@@ -5,6 +5,7 @@ ghost use Rattle.writer.specs.Outcome.{GivesFirst};
 ghost use Rattle.writer.specs.Shapes.{counted_of};
 ghost use Rattle.cut_films.specs.Audio.{samples_of};
 ghost use Rattle.cut_films.specs.Calls.{bytes_before, bytes_call, last_call, Leaves};
+ghost use Rattle.cut_films.specs.Film.{last_call_by};
 
 use crate::audio::{AUDIO, audio, samples};
 use crate::film::LastCall;
@@ -12,17 +13,8 @@ use answers::Refusal;
 use writer::record::handed_back;
 use writer::{CAFWriter, Counted};
 
-// All last calls.
-pub const LAST_CALLS: [LastCall; 8] = [
-    LastCall::Begin,
-    LastCall::OneByte,
-    LastCall::Samples,
-    LastCall::FinishEmpty,
-    LastCall::FinishByte,
-    LastCall::FinishSamples,
-    LastCall::FinishRun,
-    LastCall::FinishAgain,
-];
+// The last calls have the numbers below this one.
+pub const LAST_CALLS: u32 = 8;
 
 // How many bytes stand before this last call.
 fn bytes_before(last: LastCall) -> usize
@@ -37,10 +29,10 @@ fn bytes_before(last: LastCall) -> usize
 }
 
 // The bytes before this last call, where there are any.
-pub fn with_bytes(w: CAFWriter, buf: &mut [u8], session: usize, last: LastCall) -> CAFWriter
-    ensures { Leaves (bytes_call w (length buf.old) session last) result buf.old buf.new }
+pub fn with_bytes(w: CAFWriter, buf: &mut [u8], session: usize, last: u32) -> CAFWriter
+    ensures { Leaves (bytes_call w (length buf.old) session (last_call_by last)) result buf.old buf.new }
 {
-    let n = bytes_before(last);
+    let n = bytes_before(LastCall::of(last));
     if n == 0 {
         return w;
     }
@@ -59,12 +51,12 @@ pub fn cut_last(
     w: CAFWriter,
     buf: &mut [u8],
     session: usize,
-    last: LastCall,
+    last: u32,
     n: usize,
 ) -> Result<Counted, Refusal>
-    ensures { GivesFirst n (last_call w (length buf.old) session last) w (counted_of w.file_len result) buf.old buf.new }
+    ensures { GivesFirst n (last_call w (length buf.old) session (last_call_by last)) w (counted_of w.file_len result) buf.old buf.new }
 {
-    match last {
+    match LastCall::of(last) {
         LastCall::OneByte => w.write_data_counted(buf, &audio(session)[..1], n),
         LastCall::Samples => w.write_pcm_24bit_as_packed_counted(buf, &samples(session), n),
         _ => w.finish_counted(buf, n),

@@ -20,7 +20,7 @@ use cut_films::film::{Film, LastCall, LayoutBy, started, then};
 use std::io;
 
 // Every cut of one more session with this last call, from no store up to one more than it has.
-fn cut_everywhere(rt: &impl Print, film: Film, last: LastCall) -> io::Result<()> {
+fn cut_everywhere(rt: &impl Print, film: Film, last: u32) -> io::Result<()> {
     let stores = session::stores_of(film, last);
     for n in 0..stores.saturating_add(2) {
         line::show(rt, then(film, last, n))?;
@@ -30,7 +30,7 @@ fn cut_everywhere(rt: &impl Print, film: Film, last: LastCall) -> io::Result<()>
 
 // One more session, with every last call and every cut.
 fn one_more(rt: &impl Print, film: Film) -> io::Result<()> {
-    for last in LAST_CALLS {
+    for last in 0..LAST_CALLS {
         cut_everywhere(rt, film, last)?;
     }
     Ok(())
@@ -38,6 +38,7 @@ fn one_more(rt: &impl Print, film: Film) -> io::Result<()> {
 
 // Two more sessions: the first with this last call and every cut, the other with every last call and every cut.
 fn two_more(rt: &impl Print, film: Film, last: LastCall) -> io::Result<()> {
+    let last = last as u32;
     for n in 0..=session::stores_of(film, last) {
         one_more(rt, then(film, last, n))?;
     }
@@ -46,19 +47,23 @@ fn two_more(rt: &impl Print, film: Film, last: LastCall) -> io::Result<()> {
 
 fn main(rt: HostRuntime) -> io::Result<()> {
     // one session: no layout, a tag, descriptions
-    one_more(&rt, started(LayoutBy::Nothing))?;
-    one_more(&rt, started(LayoutBy::Tag))?;
-    one_more(&rt, started(LayoutBy::Labels))?;
+    one_more(&rt, started(LayoutBy::Nothing as u32))?;
+    one_more(&rt, started(LayoutBy::Tag as u32))?;
+    one_more(&rt, started(LayoutBy::Labels as u32))?;
     // two sessions: after a header that is cut, at its first and at its last store; after data that are cut; after a finish that is cut
-    let film = started(LayoutBy::Nothing);
-    one_more(&rt, then(film, LastCall::Begin, 1))?;
-    one_more(&rt, then(film, LastCall::Begin, 67))?;
+    let film = started(LayoutBy::Nothing as u32);
+    one_more(&rt, then(film, LastCall::Begin as u32, 1))?;
+    one_more(&rt, then(film, LastCall::Begin as u32, 67))?;
     two_more(&rt, film, LastCall::OneByte)?;
     two_more(&rt, film, LastCall::Samples)?;
     two_more(&rt, film, LastCall::FinishByte)?;
     two_more(&rt, film, LastCall::FinishRun)?;
     // three sessions, the first a finished film: a resume that is cut, or data, or a finish, and then one more session
-    let film = then(started(LayoutBy::Labels), LastCall::FinishByte, 8);
+    let film = then(
+        started(LayoutBy::Labels as u32),
+        LastCall::FinishByte as u32,
+        8,
+    );
     two_more(&rt, film, LastCall::Begin)?;
     two_more(&rt, film, LastCall::Samples)?;
     two_more(&rt, film, LastCall::FinishSamples)

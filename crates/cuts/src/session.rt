@@ -32,7 +32,7 @@ impl Left {
 
 // The record that the last call finds.
 fn before_last(w: CAFWriter, buf: &mut [u8], i: usize, last: LastCall) -> CAFWriter {
-    let given = with_bytes(w, buf, i, last);
+    let given = with_bytes(w, buf, i, last as u32);
     match last {
         LastCall::FinishSamples => with_samples(given, buf, i),
         LastCall::FinishAgain => handed_back(given.finish(buf)),
@@ -43,14 +43,14 @@ fn before_last(w: CAFWriter, buf: &mut [u8], i: usize, last: LastCall) -> CAFWri
 fn calls(w: CAFWriter, buf: &mut [u8], i: usize, session: Session) -> Left {
     let ready = before_last(w, buf, i, session.last);
     Left::by(
-        cut_last(ready, buf, i, session.last, session.stores),
+        cut_last(ready, buf, i, session.last as u32, session.stores),
         ready.file_len,
     )
 }
 
 // The first session.
 fn begun(layout: LayoutBy, buf: &mut [u8], session: Session) -> Left {
-    let w = with_settings(layout);
+    let w = with_settings(layout as u32);
     if session.last == LastCall::Begin {
         return Left::by(w.write_header_counted(buf, session.stores), w.file_len);
     }
@@ -85,6 +85,6 @@ pub(crate) fn make(film: Film, buf: &mut [u8]) -> Left {
 }
 
 // How many stores the last call of one session more has.
-pub(crate) fn stores_of(film: Film, last: LastCall) -> usize {
+pub(crate) fn stores_of(film: Film, last: u32) -> usize {
     make(then(film, last, ROOM), &mut [0; ROOM]).stores
 }
