@@ -1,7 +1,8 @@
 -- A sample is cases one after the other (compare/README.md, The fixed sample). A case that is cut is the last.
-use Rattle.std.specs.Prelude.{ℕ, zero, suc, ◌+◌, cond, List, ltb, length, Option, Some, None}
+use Rattle.std.specs.Prelude.{ℕ, zero, suc, ◌+◌, ◌++◌, cond, List, ltb, length, Option, Some, None, codes, decimal}
 use Rattle.cases.specs.Frame.{case_at}
 use Rattle.cases.specs.declared.frame.Case.{Case}
+use Rattle.cases.specs.declared.tally.Tally.{Tally}
 
 abbrev pub after : (ℕ → ℕ) → Option Case → ℕ
 after count None = 0
@@ -15,3 +16,7 @@ cases_from (suc n) s at = cond (ltb at (length s)) (1 + after (λ (p : ℕ). cas
 -- of a whole sample: a case is at least one byte long
 unfoldable pub case_count : List ℕ → ℕ
 case_count s = cases_from (length s) s 0
+
+-- the two lines that the replays print
+abbrev pub tally_text : Tally → List ℕ
+tally_text t = codes "the same " ++ (decimal t.same ++ (codes "\ndifferent " ++ decimal t.different))

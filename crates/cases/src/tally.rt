@@ -1,6 +1,6 @@
 // How many cases of a sample have the answer that is wanted.
-ghost use Rattle.std.specs.Prelude.{◌≡◌, ◌+◌};
-ghost use Rattle.cases.specs.Tally.{case_count};
+ghost use Rattle.std.specs.Prelude.{◌≡◌, ◌+◌, Some};
+ghost use Rattle.cases.specs.Tally.{case_count, tally_text};
 
 use crate::frame::case_at;
 use std::fmt;
@@ -40,6 +40,8 @@ pub fn tally_of<R: Replay>(s: &[u8], replay: &R) -> Tally
 }
 
 impl fmt::Display for Tally {
+    ghost output = { λ t. Some (tally_text t) };
+
     fn fmt<W: fmt::Write>(&self, f: &mut fmt::Formatter<W>) -> fmt::Result {
         write!(f, "the same {}\ndifferent {}", self.same, self.different)
     }
