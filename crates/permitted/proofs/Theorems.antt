@@ -2,7 +2,7 @@
 use mathlib.Core.Path.{◌≡◌, sym, ◌∙◌}
 use Rattle.permitted.specs.Claims.{OneResult}
 
-same : {A : Type 0} {x y a : A} → x ≡ a → y ≡ a → x ≡ y
+pub same : {A : Type 0} {x y a : A} → x ≡ a → y ≡ a → x ≡ y
 same p q = p ∙ sym q
 
 pub one-result : OneResult

@@ -1,5 +1,6 @@
 -- 01, What a contract here has to say: any two results that it permits are equal. A contract that is one equation for each thing given back
--- says so by its form. The calls for C promise records of such equations; here each record is held to it, so that it can lose no field.
+-- says so by its form, and so does one of an image that tells the result (Told). The calls for C promise records of such equations; here each record
+-- is held to it, so that it can lose no field.
 use Rattle.std.specs.Prelude.{ℕ, ◌≡◌, Bool, List, ℤ}
 use Rattle.writer.specs.Outcome.{Outcome}
 use Rattle.writer.specs.declared.CAFWriter.{CAFWriter}
