@@ -1,6 +1,5 @@
 // When a record is sound, in the order of specs/Sound.antt.
 ghost use Rattle.std.specs.Prelude.{◌≡◌};
-ghost use Rattle.refusals.specs.Sound.{labels_sound};
 ghost use Rattle.writer.specs.Sound.{layout_sound, sound_alone, sound, standing_of};
 
 use crate::CAFWriter;
@@ -12,30 +11,22 @@ use refusals::of_layout::labels_sound;
 use refusals::places::places_sound;
 use refusals::standing::Standing;
 
-// Lent from a copy, which only a described layout needs: a record whose field is lent is copied whole.
-fn described_sound(w: CAFWriter) -> bool
-    ensures { result ≡ labels_sound w.label_count w.labels }
-{
-    let labels = w.labels;
-    labels_sound(w.label_count, &labels)
-}
-
 #[tactic(auto, unfolding(crate::specs::Sound::layout_sound))]
-fn layout_sound(w: CAFWriter) -> bool
-    ensures { result ≡ layout_sound w }
+fn layout_sound(w: &CAFWriter) -> bool
+    ensures { result ≡ layout_sound w.now }
 {
     match w.layout {
         ChannelLayout::NoLayout => true,
         ChannelLayout::Tagged(tag) => known_tag(tag),
-        ChannelLayout::Described => described_sound(w),
+        ChannelLayout::Described => labels_sound(w.label_count, &w.labels),
     }
 }
 
 impl CAFWriter {
     // Without a buffer.
     #[tactic(auto, unfolding(crate::specs::Sound::sound_alone, crate::specs::Sound::places_sound, crate::specs::Sound::format_sound))]
-    pub(crate) fn is_sound_alone(self) -> bool
-        ensures { result ≡ sound_alone self }
+    pub(crate) fn is_sound_alone(&self) -> bool
+        ensures { result ≡ sound_alone self.now }
     {
         self.file_len <= FILE_MAX
             && places_sound(
@@ -52,14 +43,15 @@ impl CAFWriter {
 
     // Over a buffer of `room` bytes.
     #[tactic(auto, unfolding(crate::specs::Sound::sound))]
-    pub(crate) fn is_sound(self, room: usize) -> bool
-        ensures { result ≡ sound self room }
+    pub(crate) fn is_sound(&self, room: usize) -> bool
+        ensures { result ≡ sound self.now room }
     {
         self.file_len <= room && self.is_sound_alone()
     }
+
     // What the record says of itself over that buffer.
-    pub(crate) fn standing(self, room: usize) -> Standing
-        ensures { result ≡ standing_of self room }
+    pub(crate) fn standing(&self, room: usize) -> Standing
+        ensures { result ≡ standing_of self.now room }
     {
         Standing {
             sound: self.is_sound(room),
