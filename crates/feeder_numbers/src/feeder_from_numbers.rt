@@ -1,7 +1,5 @@
 // The feeding record read from the array that a caller keeps.
-ghost use Rattle.std.specs.Prelude.{◌≡◌, true, length, take, drop, eqb, OnSome};
-ghost use Rattle.std.specs.List.{find};
-ghost use Rattle.answers.specs.Refused.{refusal_number};
+ghost use Rattle.std.specs.Prelude.{◌≡◌, true, length, take, drop, OnSome};
 ghost use Rattle.numbers.specs.Words.{all_words};
 ghost use Rattle.feeder_numbers.specs.FeederNumbers.{feeder_places, phase_of, held_in, feeder_of};
 
@@ -12,33 +10,13 @@ use crate::phases::{
 use crate::places::{
     CHUNKS, COUNT, FEEDER, HELD, HELD_8, HELD_16, HELD_24, NUMBER, PHASE, SIZE, START, TOTAL,
 };
-use answers::Refusal;
 use byte_order::put::put;
 use feeder::{DataChunk, Feeder, Phase};
 use numbers::format_from_numbers::{AFTER_FORMAT, FORMAT_ID, audio_of};
-use numbers::words::words;
+use numbers::words::{WORDS, words};
 
-// The refusals that a phase may hold: those that the bytes give, and TooLong.
-const REASONS: [Refusal; 7] = [
-    Refusal::NotCaf,
-    Refusal::BadVersion,
-    Refusal::BadDesc,
-    Refusal::BadRate,
-    Refusal::BadSize,
-    Refusal::SecondData,
-    Refusal::TooLong,
-];
-
-fn reason_in(reasons: &[Refusal], number: u64) -> Option<Refusal>
-    ensures { result ≡ find (λ r. eqb (refusal_number r) number) reasons.now }
-{
-    reasons
-        .iter()
-        .copied()
-        .find(|reason| u64::from(reason.number()) == number)
-}
-
-// The phase that the array tells, where there is one of its number.
+// The phase that the array tells, where there is one of its number. A refusal's number fits 32 bits; whether calls give it is for
+// `is_sound` to say.
 #[tactic(auto, using(crate::proofs::Feeders::feeder_audio), unfolding(crate::specs::FeederNumbers::phase_of))]
 fn phase_of(numbers: &[u64]) -> Option<Phase>
     requires places { length numbers.now ≡ feeder_places }
@@ -62,7 +40,7 @@ fn phase_of(numbers: &[u64]) -> Option<Phase>
         EDIT => Phase::Edit(format, numbers[SIZE]),
         OPEN_DATA => Phase::OpenData(format, chunk.start),
         CLOSED_DATA => Phase::ClosedData(format, chunk, left),
-        REFUSED => Phase::Refused(reason_in(&REASONS, numbers[NUMBER])?),
+        REFUSED if numbers[NUMBER] < WORDS => Phase::Refused(numbers[NUMBER] as u32),
         _ => return None,
     };
     Some(phase)
