@@ -1,7 +1,8 @@
 // Why a call is refused: an error enum, whose values are the numbers of documents 01 and 02. C is told the number.
-ghost use Rattle.std.specs.Prelude.{◌≡◌};
+ghost use Rattle.std.specs.Prelude.{◌≡◌, eqb};
+ghost use Rattle.std.specs.List.{find};
 ghost use Rattle.answers.specs.Numbers.{numbers};
-ghost use Rattle.answers.specs.Refused.{refusal_number, outcome_number, refusals};
+ghost use Rattle.answers.specs.Refused.{refusal_number, outcome_number, refusals, refusal_for};
 
 #[derive(Clone, Copy, Debug, PartialEq, Eq)]
 pub enum Refusal {
@@ -100,6 +101,22 @@ pub fn all_refusals() -> [Refusal; 33]
         Refusal::BadWave,
         Refusal::DataBegun,
     ]
+}
+
+fn refusal_among(refusals: &[Refusal], number: u32) -> Option<Refusal>
+    ensures { result ≡ find (λ r. eqb (refusal_number r) number) refusals.now }
+{
+    refusals
+        .iter()
+        .copied()
+        .find(|refusal| refusal.number() == number)
+}
+
+// The refusal of a number, where it is one's.
+pub fn refusal_of(number: u32) -> Option<Refusal>
+    ensures { result ≡ refusal_for number }
+{
+    refusal_among(&all_refusals(), number)
 }
 
 // The numbers, in ascending order: 0, and that of each refusal.

@@ -1,5 +1,4 @@
 -- What the record knows of a whole file s when its first i bytes were fed: which part of the strict reading its phase leaves.
-use Rattle.answers.specs.Refused.{refusal_number}
 use Rattle.std.proofs.Common.{Option, None, Some}
 use mathlib.Core.Path.{◌≡◌}
 use mathlib.Core.Bool.{true, false, cond}
@@ -118,7 +117,7 @@ At s i h n k (Skipping f d m) = AtBody s i n k cut_short f d m
 At s i h n k (Edit f size) = AtEdit s i h n k f size
 At s i h n k (OpenData f start) = AtOpen s i k f start
 At s i h n k (ClosedData f c m) = AtBody s i n k data_past_end f (Some c) m
-At s i h n k (Refused reason) = (strict s ≡ Rejected (refusal_number reason) k) × (is_by_bytes (refusal_number reason) ≡ true)
+At s i h n k (Refused number) = (strict s ≡ Rejected number k) × (is_by_bytes number ≡ true)
 
 pub record Follows (s : List ℕ) (i : ℕ) (r : Feeder) : Type 0 where
   pub room : length r.held ≡ 32

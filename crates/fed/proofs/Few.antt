@@ -44,7 +44,7 @@ late (Skipping f d left) = begun d
 late (Edit f size) = 0
 late (OpenData f start) = 1
 late (ClosedData f chunk left) = 1
-late (Refused reason) = 2
+late (Refused number) = 2
 
 abbrev rank : Feeder → ℕ
 rank r = 2 * r.chunks + late r.phase
@@ -96,7 +96,7 @@ module _ (h h' : List ℕ) (n n' t t' k : ℕ) where
   on (Edit f size) c = let e = edit-late f size t' in omega arith
   on (OpenData f start) c = absurd (let z : ⊥ = omega arith in z)
   on (ClosedData f chunk m) c = absurd (let z : ⊥ = omega arith in z)
-  on (Refused reason) c = absurd (let z : ⊥ = omega arith in z)
+  on (Refused number) c = absurd (let z : ⊥ = omega arith in z)
 
 -- no bytes take a record back, and those that a phase wanted bring it on
 fills-rank : (phase : Phase) (h : List ℕ) (n t k : ℕ) (cs : List ℕ) → Collects phase
@@ -130,7 +130,7 @@ took-rank (ClosedData f chunk m) h n t k cs have g l w =
     either (λ (x : Phase). (2 * k + 1 ≤ 2 * k + late x) × (length cs ≡ m → 2 * k + 1 + 1 ≤ 2 * k + late x)) (eqb (m - length cs) 0)
     (λ _. (omega arith, λ _. omega arith))
     (λ x. (omega arith, λ e. absurd (true≢false (sym (eq-eqb (m - length cs) 0 (omega arith)) ∙ x))))
-took-rank (Refused reason) h n t k cs have g l w = (omega arith, λ e. absurd (let z : ⊥ = omega arith in z))
+took-rank (Refused number) h n t k cs have g l w = (omega arith, λ e. absurd (let z : ⊥ = omega arith in z))
 
 late-small : (phase : Phase) → late phase ≤ 2
 late-small FileHeader = omega arith
@@ -141,7 +141,7 @@ late-small (Skipping f d m) = let b = begun-small d in omega arith
 late-small (Edit f size) = omega arith
 late-small (OpenData f start) = omega arith
 late-small (ClosedData f chunk m) = omega arith
-late-small (Refused reason) = omega arith
+late-small (Refused number) = omega arith
 
 step-rank : (r : Feeder) (b : ℕ) → Sound r → rank r ≤ rank (step1 r b)
 unfolding step1

@@ -309,7 +309,7 @@ module _ (s : List ℕ) where
       phase-on have (Edit f size) x some l a = edit-on f size (omega arith) a
       phase-on have (OpenData f start) x some l a = open-on f start a
       phase-on have (ClosedData f chunk m) x some l a = closed_on f chunk m l a
-      phase-on have (Refused reason) x some l a = absurd (true≢false x)
+      phase-on have (Refused number) x some l a = absurd (true≢false x)
 
     -- some bytes, no more than are wanted
     pub bytes_on : (have : ℕ) (r : Feeder) → is_refused r.phase ≡ false → 0 < length cs → length cs ≤ wanted r.count have r.phase → Follows s i r
@@ -326,7 +326,7 @@ at-wants s i h n k (Skipping f d m) a = a.some
 at-wants s i h n k (Edit f size) a = let l = a.few in omega arith
 at-wants s i h n k (OpenData f start) a = omega arith
 at-wants s i h n k (ClosedData f chunk m) a = a.some
-at-wants s i h n k (Refused reason) a = omega arith
+at-wants s i h n k (Refused number) a = omega arith
 
 pub byte-on : (s : List ℕ) (i b : ℕ) (rest : List ℕ) → drop i s ≡ b ∷ rest → (r : Feeder) → is_refused r.phase ≡ false → Follows s i r
     → Follows s (suc i) (took r (b ∷ []))

@@ -42,7 +42,7 @@ off n t k (Skipping f d m) e = refl
 off n t k (Edit f size) e = refl
 off n t k (OpenData f start) e = refl
 off n t k (ClosedData f chunk m) e = refl
-off n t k (Refused reason) e = absurd (true≢false e)
+off n t k (Refused number) e = absurd (true≢false e)
 
 -- and a refusal that the bytes gave stays
 given : (s : List ℕ) (i : ℕ) (h : List ℕ) (n t k : ℕ) (phase : Phase) → is_refused phase ≡ true → At s i h n k phase → cut_off (end_as n t k phase) ≡ end_as n t k phase
@@ -54,7 +54,7 @@ given s i h n t k (Skipping f d m) e a = absurd (true≢false (sym e))
 given s i h n t k (Edit f size) e a = absurd (true≢false (sym e))
 given s i h n t k (OpenData f start) e a = absurd (true≢false (sym e))
 given s i h n t k (ClosedData f chunk m) e a = absurd (true≢false (sym e))
-given s i h n t k (Refused reason) e a = rw a.1
+given s i h n t k (Refused number) e a = rw a.1
 
 module _ (s : List ℕ) (long : file_max < length s) where
   abbrev up_to : List ℕ

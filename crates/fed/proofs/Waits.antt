@@ -1,5 +1,4 @@
 -- The refusals that wait for the end are not in the bytes: with others after them the strict reading answers otherwise.
-use Rattle.answers.specs.Refused.{refusal_number}
 use Rattle.std.proofs.Common.{Option, Some, None}
 use mathlib.Core.Path.{◌≡◌, refl, sym, ◌∙◌, ap}
 use mathlib.Core.Bool.{true, false, not, true≢false}
@@ -52,7 +51,7 @@ end-count n t k (Skipping f d m) = refl
 end-count n t k (Edit f size) = refl
 end-count n t k (OpenData f start) = refl
 end-count n t k (ClosedData f chunk m) = refl
-end-count n t k (Refused reason) = refl
+end-count n t k (Refused number) = refl
 
 -- a piece that these bytes make whole
 whole_is : (phase : Phase) (h : List ℕ) (n t k : ℕ) (cs : List ℕ) → Collects phase → n + length cs ≡ piece_size phase
@@ -176,7 +175,7 @@ module _ (s : List ℕ) (number k : ℕ) (h : List ℕ) (n t j : ℕ) where
       by_number (fill (Edit f size)) _ (filled (Edit f size) (omega arith) refl a.few refl g) (λ i. edit-after f size (t + length (fill (Edit f size))) (t + length (fill (Edit f size))) j (i ∙ sym (ap strict_number e)))
   other (OpenData f start) g a y e b = absurd (let z : ◌≡◌ {A = ℕ} 0 1 = cc in omega arith)
   other (ClosedData f chunk m) g a y e b = closed-other f chunk m g a.none a.some (sym (ap strict_number e))
-  other (Refused m) g a y e b = let i : refusal_number m ≡ number = cc in absurd (true≢false (sym a.1 ∙ ap is_by_bytes i ∙ b))
+  other (Refused m) g a y e b = let i : m ≡ number = cc in absurd (true≢false (sym a.1 ∙ ap is_by_bytes i ∙ b))
 
 pub waits-for-end : WaitsForEnd
 waits-for-end s number k short e b =

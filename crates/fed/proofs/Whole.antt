@@ -42,7 +42,7 @@ stays s i j h n k (Skipping f d m) x a = absurd (true≢false (sym x))
 stays s i j h n k (Edit f size) x a = absurd (true≢false (sym x))
 stays s i j h n k (OpenData f start) x a = absurd (true≢false (sym x))
 stays s i j h n k (ClosedData f chunk m) x a = absurd (true≢false (sym x))
-stays s i j h n k (Refused reason) x a = a
+stays s i j h n k (Refused number) x a = a
 
 module _ (s : List ℕ) where
   step-on : (i b : ℕ) (rest : List ℕ) (r : Feeder) → drop i s ≡ b ∷ rest → i < file_max → Follows s i r → Follows s (suc i) (step1 r b)
@@ -134,7 +134,7 @@ module _ (s : List ℕ) where
         rw a.count (sym (a.rest ∙ rw w))
     end-as t (OpenData f start) e a = rw (e refl) (sym a.rest)
     end-as t (ClosedData f chunk m) e a = sym (a.cut (omega (arith, a.some)))
-    end-as t (Refused reason) e a = sym a.0
+    end-as t (Refused number) e a = sym a.0
 
   pub end_is : (r : Feeder) → Follows s (length s) r → end_of r ≡ strict s
   end_is r a = end-as r.held r.count r.chunks r.total r.phase a.total a.at

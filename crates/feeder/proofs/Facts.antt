@@ -1,13 +1,15 @@
 -- The tests of soundness, as facts, and back.
 use mathlib.Core.Path.{◌≡◌, refl}
 use Rattle.std.proofs.Common.{Option, Some, None}
+use Rattle.std.specs.Option.{unwrap_or}
 use mathlib.Core.Bool.{Bool, true, false, not, ◌&&◌, ◌||◌}
 use Prim.Native.Nat.{ℕ, ◌+◌, ◌-◌, ◌*◌, ◌<◌, ◌≤◌}
 use native.Mathlib.Omega.{arith}
 use lib.Dec.{ltb, leb, eqb}
 use borrow.Author.Tests.{eqb-true, leb-true, ltb-true, not-true, eq-eqb, le-leb, lt-ltb}
-use Rattle.answers.specs.Numbers.{too_long, file_max}
-use Rattle.answers.specs.Refused.{refusal_number}
+use Rattle.answers.specs.Numbers.{not_caf, bad_size, bad_rate, bad_version, bad_desc, second_data, too_long, file_max}
+use Rattle.answers.specs.Refused.{refusal_number, refusal_for}
+use Rattle.answers.specs.declared.refusal.Refusal.{Refusal}
 use Rattle.format.specs.declared.AudioFormat.{AudioFormat}
 use Rattle.reading.specs.Types.{negative}
 use Rattle.reading.specs.Rules.{is_bad_data_size}
@@ -86,7 +88,7 @@ Facts n total k (Skipping f d m) = InSkip total k f d m
 Facts n total k (Edit f size) = InEdit n total k f size
 Facts n total k (OpenData f start) = InOpen total k f start
 Facts n total k (ClosedData f c m) = InClosed total k f c.size c.start m
-Facts n total k (Refused reason) = (12 * k ≤ total) × (eqb (refusal_number reason) too_long || is_by_bytes (refusal_number reason) ≡ true)
+Facts n total k (Refused number) = (12 * k ≤ total) × (eqb number too_long || is_by_bytes number ≡ true)
 
 met-facts : (k n : ℕ) → met_within k n ≡ true → Met k n
 met-facts k n e = let (a, b) = both (leb 1 k) (leb (52 + 12 * (k - 1)) n) e in record { one = leb-true 1 k a; within = leb-true (52 + 12 * (k - 1)) n b }
@@ -153,7 +155,7 @@ facts n total k (ClosedData f chunk m) e =
       fits = leb-true m (size - 4) g;
       come = eqb-true (total - start) (size - 4 - m) q;
     }
-facts n total k (Refused reason) e = let (a, b) = both (leb (12 * k) total) (eqb (refusal_number reason) too_long || is_by_bytes (refusal_number reason)) e in (leb-true (12 * k) total a, b)
+facts n total k (Refused number) e = let (a, b) = both (leb (12 * k) total) (eqb number too_long || is_by_bytes number) e in (leb-true (12 * k) total a, b)
 
 met-tests : (k n : ℕ) → Met k n → met_within k n ≡ true
 met-tests k n m = join (le-leb 1 k m.one) (le-leb (52 + 12 * (k - 1)) n m.within)
@@ -188,7 +190,7 @@ tests n total k (ClosedData f chunk m) a =
     let record { size = size; start = start } = chunk in
     join (join (join (join (open-tests total k f start a.data-at) (closed-tests size a.least a.few)) (le-leb 1 m a.some)) (le-leb m (size - 4) a.fits))
     (eq-eqb (total - start) (size - 4 - m) a.come)
-tests n total k (Refused reason) a = join (le-leb (12 * k) total a.0) a.1
+tests n total k (Refused number) a = join (le-leb (12 * k) total a.0) a.1
 
 pub record Sound (r : Feeder) : Type 0 where
   pub total : r.total ≤ file_max
@@ -212,6 +214,27 @@ sound-tests r a =
     join (join (le-leb r.total file_max a.total) (le-leb r.count (piece_size r.phase - 1) a.few))
     (tests r.count r.total r.chunks r.phase a.facts)
 
+-- what holds by each of two tests holds by one of them
+by-one : {T : Type 0} (a b : Bool) → (a ≡ true → T) → (b ≡ true → T) → a || b ≡ true → T
+by-one true b f g e = f refl
+by-one false b f g e = g e
+
+-- the number of a refused phase is that of a refusal, where the record is sound
+pub told : (number : ℕ) (other : Refusal) → eqb number too_long || is_by_bytes number ≡ true → refusal_number (unwrap_or (refusal_for number) other) ≡ number
+told number other e =
+    let by : (n : ℕ) → refusal_number (unwrap_or (refusal_for n) other) ≡ n → eqb number n ≡ true → refusal_number (unwrap_or (refusal_for number) other) ≡ number =
+    λ n x t. rw (eqb-true number n t) x in
+    by-one (eqb number too_long) (is_by_bytes number) (by too_long refl)
+    (by-one (eqb number not_caf || eqb number bad_version || eqb number bad_desc || eqb number bad_rate || eqb number bad_size) (eqb number second_data)
+    (by-one (eqb number not_caf || eqb number bad_version || eqb number bad_desc || eqb number bad_rate) (eqb number bad_size)
+    (by-one (eqb number not_caf || eqb number bad_version || eqb number bad_desc) (eqb number bad_rate)
+    (by-one (eqb number not_caf || eqb number bad_version) (eqb number bad_desc)
+    (by-one (eqb number not_caf) (eqb number bad_version) (by not_caf refl) (by bad_version refl))
+    (by bad_desc refl))
+    (by bad_rate refl))
+    (by bad_size refl))
+    (by second_data refl)) e
+
 -- a record that is fed too much
 pub chunks-few : (n t k : ℕ) (phase : Phase) → Facts n t k phase → 12 * k ≤ t
 chunks-few n t k FileHeader a = omega arith
@@ -222,14 +245,17 @@ chunks-few n t k (Skipping f d m) a = let m = a.met.within in let o = a.met.one 
 chunks-few n t k (Edit f size) a = let m = a.met.within in let o = a.met.one in omega arith
 chunks-few n t k (OpenData f start) a = let m = a.met.within in let o = a.met.one in let p = a.past in omega arith
 chunks-few n t k (ClosedData f c m) a = let q = a.data-at.met.within in let o = a.data-at.met.one in let p = a.data-at.past in omega arith
-chunks-few n t k (Refused reason) a = a.0
+chunks-few n t k (Refused number) a = a.0
 
 pub fresh-sound : Sound fresh
 fresh-sound = record { total = omega arith; few = omega arith; facts = (refl, refl) }
 
--- a sound record that stands in open data, or where a chunk header is due
+-- a sound record that stands in open data, that is refused, or where a chunk header is due
 pub in-open : (r : Feeder) {f : AudioFormat} {start : ℕ} → sound r ≡ true → r.phase ≡ OpenData f start → InOpen r.total r.chunks f start
 in-open r s e = rw e at (sound-facts r s).facts
+
+pub in-refused : (r : Feeder) {number : ℕ} → sound r ≡ true → r.phase ≡ Refused number → eqb number too_long || is_by_bytes number ≡ true
+in-refused r s e = (rw e at (sound-facts r s).facts).1
 
 pub in-chunk : (r : Feeder) {f : AudioFormat} {d : Option DataChunk} → sound r ≡ true → r.phase ≡ Header f d → InChunk r.count r.total r.chunks f d
 in-chunk r s e = rw e at (sound-facts r s).facts

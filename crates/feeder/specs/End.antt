@@ -1,7 +1,6 @@
 -- 02, T-01 and T-05: the end call.
 use Rattle.std.specs.Prelude.{ℕ, Option, Some, None, ◌-◌, cond, ltb, eqb}
 use Rattle.answers.specs.Numbers.{cut_short, no_data, data_past_end, bad_writer}
-use Rattle.answers.specs.Refused.{refusal_number}
 use Rattle.format.specs.declared.AudioFormat.{AudioFormat}
 use Rattle.reading.specs.Types.{type_size, edit_size, open_size, size_to_data}
 use Rattle.reading.specs.Strict.{strict_info}
@@ -36,7 +35,7 @@ end_as n total k (Skipping f d left) = Rejected cut_short k
 end_as n total k (Edit f size) = Rejected cut_short k
 end_as n total k (OpenData f start) = Accepted (info_at f open_size start (total - start)) k
 end_as n total k (ClosedData f c left) = Rejected data_past_end k
-end_as n total k (Refused reason) = Rejected (refusal_number reason) k
+end_as n total k (Refused number) = Rejected number k
 
 abbrev pub end_of : Feeder → StrictAnswer
 end_of r = end_as r.count r.total r.chunks r.phase

@@ -1,7 +1,6 @@
 -- 02, T-01 and T-05: the record that is fed, and when it is sound.
 use Rattle.std.specs.Prelude.{ℕ, Option, Some, None, ◌+◌, ◌-◌, ◌*◌, Bool, true, not, ◌&&◌, ◌||◌, replicate, leb, ltb, eqb}
 use Rattle.answers.specs.Numbers.{not_caf, bad_size, bad_rate, bad_version, bad_desc, second_data, too_long, file_max}
-use Rattle.answers.specs.Refused.{refusal_number}
 use Rattle.byte_order.specs.Rate.{not_aNumber}
 use Rattle.format.specs.Desc.{desc_size}
 use Rattle.format.specs.declared.AudioFormat.{AudioFormat}
@@ -38,7 +37,7 @@ piece_size (Skipping f d left) = 0
 piece_size (Edit f size) = edit_size
 piece_size (OpenData f start) = 0
 piece_size (ClosedData f c left) = 0
-piece_size (Refused reason) = 0
+piece_size (Refused number) = 0
 
 -- the refusals that the bytes themselves give, as soon as the piece is whole that tells them. All others (CutShort, NoData and
 -- DataPastEnd) wait for the end
@@ -82,7 +81,7 @@ phase_sound n total k (Edit f size) = headers_before n total k f && not (is_bad_
 phase_sound n total k (OpenData f start) = leb start total && headers_before edit_size start k f
 phase_sound n total k (ClosedData f c left) =
     leb c.start total && headers_before edit_size c.start k f && is_closed_size c.size && leb 1 left && leb left (c.size - edit_size) && eqb (total - c.start) (c.size - edit_size - left)
-phase_sound n total k (Refused reason) = leb (chunk_header_size * k) total && (eqb (refusal_number reason) too_long || is_by_bytes (refusal_number reason))
+phase_sound n total k (Refused number) = leb (chunk_header_size * k) total && (eqb number too_long || is_by_bytes number)
 
 -- a record that calls may have made. No more is read than a file may have, fewer bytes are held than the piece has, and none where
 -- no piece is collected. BadWriter (19) refuses another

@@ -1,13 +1,12 @@
 // The end call: what the strict reading says of all that was fed. It changes nothing, so that it may be called twice.
 ghost use Rattle.std.specs.Prelude.{◌≡◌, true, ◌≤◌};
-ghost use Rattle.answers.specs.Refused.{refusal_number};
 ghost use Rattle.reading.specs.Shapes.{strict_of};
 ghost use Rattle.feeder.specs.Record.{passed_within, sound};
 ghost use Rattle.feeder.specs.End.{info_at, header_end, chunk_end, end_of, end};
 
 use crate::sound::is_sound;
 use crate::{DataChunk, Feeder, Phase};
-use answers::Refusal;
+use answers::{Refusal, refusal_of};
 use format::AudioFormat;
 use reading::sizes::{EDIT_COUNT, OPEN, SIZE_TO_DATA, TYPE};
 use reading::strict::strict_info;
@@ -70,7 +69,11 @@ fn end_of(r: Feeder) -> Result<AcceptedFile, RefusedFile>
             })
         }
         Phase::ClosedData(..) => Err(RefusedFile::new(Refusal::DataPastEnd, r.chunks)),
-        Phase::Refused(refusal) => Err(RefusedFile::new(refusal, r.chunks)),
+        // a sound record's number is that of a refusal
+        Phase::Refused(number) => {
+            let refusal = refusal_of(number).unwrap_or(Refusal::BadWriter);
+            Err(RefusedFile::new(refusal, r.chunks))
+        }
         // inside the file header, the first chunk, a body that is passed over, or an edit count
         _ => Err(RefusedFile::new(Refusal::CutShort, r.chunks)),
     }

@@ -5,7 +5,6 @@ pub mod end;
 pub mod pieces;
 pub mod sound;
 
-use answers::Refusal;
 use format::AudioFormat;
 
 // A closed data chunk: its size field, and the position where its data start.
@@ -35,8 +34,8 @@ pub enum Phase {
     OpenData(AudioFormat, usize),
     // the rest of closed data: the format, the data chunk, and how many bytes are to come
     ClosedData(AudioFormat, DataChunk, usize),
-    // nothing any more: a refusal was met
-    Refused(Refusal),
+    // nothing any more: a refusal was met, with this number
+    Refused(u32),
 }
 
 // The strict reading of a file that comes in blocks. It holds the first bytes of one piece, and no payload.

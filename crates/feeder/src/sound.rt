@@ -1,6 +1,5 @@
 // Whether calls may have made a record. One that a caller made up is refused, so that nothing else has to be tested.
 ghost use Rattle.std.specs.Prelude.{◌≡◌, ◌-◌, ◌≤◌};
-ghost use Rattle.answers.specs.Refused.{refusal_number};
 ghost use Rattle.feeder.specs.declared.Phase.TheVariants.{OpenData as feeder·OpenData};
 ghost use Rattle.feeder.specs.Record.{piece_size, is_by_bytes, rate_is, met_within, headers_before, is_closed_size, passed_within, phase_sound, sound};
 
@@ -25,18 +24,15 @@ fn met_within(k: usize, n: usize) -> bool
     1 <= k && FIRST_END <= n && k - 1 <= (n - FIRST_END) / CHUNK_HEADER
 }
 
-fn is_by_bytes(refusal: Refusal) -> bool
-    ensures { result ≡ is_by_bytes (refusal_number refusal) }
+fn is_by_bytes(number: u32) -> bool
+    ensures { result ≡ is_by_bytes number }
 {
-    matches!(
-        refusal,
-        Refusal::NotCaf
-            | Refusal::BadVersion
-            | Refusal::BadDesc
-            | Refusal::BadRate
-            | Refusal::BadSize
-            | Refusal::SecondData
-    )
+    number == Refusal::NotCaf as u32
+        || number == Refusal::BadVersion as u32
+        || number == Refusal::BadDesc as u32
+        || number == Refusal::BadRate as u32
+        || number == Refusal::BadSize as u32
+        || number == Refusal::SecondData as u32
 }
 
 // The k headers stand before the last n of so many bytes.
@@ -104,8 +100,8 @@ fn phase_sound(n: usize, total: usize, k: usize, phase: Phase) -> bool
                 && left <= size as usize - EDIT_COUNT
                 && total - start == size as usize - EDIT_COUNT - left
         }
-        Phase::Refused(refusal) => {
-            k <= total / CHUNK_HEADER && (refusal == Refusal::TooLong || is_by_bytes(refusal))
+        Phase::Refused(number) => {
+            k <= total / CHUNK_HEADER && (number == Refusal::TooLong as u32 || is_by_bytes(number))
         }
     }
 }

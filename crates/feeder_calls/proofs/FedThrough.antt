@@ -4,14 +4,13 @@ use Rattle.std.proofs.Common.{Option, Some, None}
 use mathlib.Core.Path.{◌≡◌, refl, sym, ◌∙◌, ap}
 use mathlib.Core.Bool.{true, cond, ◌||◌, true≢false}
 use mathlib.Core.List.{List, [], ◌∷◌, ◌++◌}
-use Prim.Native.Nat.{ℕ, zero, suc}
+use Prim.Native.Nat.{ℕ, zero, suc, ◌^◌}
 use native.Mathlib.Omega.{arith}
 use lib.ListN.{length, take, drop, replicate}
 use lib.Seq.{take_all}
 use lib.Dec.{eqb}
-use borrow.Author.Tests.{eq-eqb, ne_eqb}
+use borrow.Author.Tests.{eq-eqb, ne_eqb, lt-ltb}
 use Rattle.answers.specs.Numbers.{bad_writer, too_long}
-use Rattle.answers.specs.Refused.{number-tells}
 use Rattle.byte_order.specs.Big.{big_at, big_bytes}
 use Rattle.format.specs.declared.AudioFormat.{AudioFormat}
 use Rattle.reading.specs.Claims.{Bytes}
@@ -30,7 +29,7 @@ use Rattle.feeding.proofs.Call.{feed-is}
 use Rattle.fed.proofs.Theorems.{fed-is}
 use Rattle.fed.proofs.Passed.{passed-is-fed}
 use Rattle.format.specs.Desc.{Typed}
-use Rattle.numbers.specs.Words.{all_words}
+use Rattle.numbers.specs.Words.{is_word, all_words}
 use Rattle.numbers.specs.FormatNumbers.{audio_numbers}
 use Rattle.feeder_numbers.specs.FeederNumbers.{phase_of, feeder_numbers, feeder_of}
 use Rattle.feeder_calls.specs.FeederCalls.{call_on, feed_on, pass_on, passable_on, feeder_after, end_on}
@@ -79,7 +78,7 @@ module _ (h : List ℕ) (n t k : ℕ) (l : length h ≡ 32) (b : Bytes h) where
   at_back (Edit f size) p = with-format f (λ x. Edit x size) p
   at_back (OpenData f start) p = with-format f (λ x. OpenData x start) p
   at_back (ClosedData f chunk m) p = with-format f (λ x. ClosedData x chunk m) p
-  at_back (Refused reason) p = rw (number-tells reason) (with-phase (Refused reason) (Refused reason) refl)
+  at_back (Refused number) p = let w : is_word number ≡ true = lt-ltb number (2 ^ 32) p in rw w (with-phase (Refused number) (Refused number) refl)
 
 pub numbers-back : (r : Feeder) → TypedFeeder r → feeder_of (feeder_numbers r) ≡ Some r
 numbers-back r t = at_back r.held r.count r.total r.chunks t.long t.bytes r.phase t.phase
@@ -94,7 +93,7 @@ not-unsound n t k (Skipping f d m) a e = omega arith
 not-unsound n t k (Edit f size) a e = omega arith
 not-unsound n t k (OpenData f start) a e = omega arith
 not-unsound n t k (ClosedData f chunk m) a e = omega arith
-not-unsound n t k (Refused reason) a e = true≢false (sym a.1 ∙ ap (λ (x : ℕ). eqb x too_long || is_by_bytes x) e)
+not-unsound n t k (Refused number) a e = true≢false (sym a.1 ∙ ap (λ (x : ℕ). eqb x too_long || is_by_bytes x) e)
 
 -- one call on the numbers of a record, and one on the record
 module _ (r : Feeder) (s : sound r ≡ true) (t : TypedFeeder r) where

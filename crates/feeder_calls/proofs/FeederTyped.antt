@@ -3,7 +3,7 @@ use Rattle.std.proofs.Common.{Option, Some, None}
 use mathlib.Core.Path.{◌≡◌, ◌∙◌}
 use mathlib.Core.Bool.{not, ◌&&◌}
 use mathlib.Core.List.{List, [], ◌∷◌, ◌++◌}
-use Prim.Native.Nat.{ℕ, zero, suc, ◌+◌, ◌-◌, ◌<◌, ◌≤◌}
+use Prim.Native.Nat.{ℕ, zero, suc, ◌+◌, ◌-◌, ◌<◌, ◌≤◌, ◌^◌}
 use native.Mathlib.Omega.{arith}
 use lib.ListN.{length, take, drop}
 use lib.Dec.{leb, eqb}
@@ -28,7 +28,7 @@ use Rattle.judging.specs.Judge.{skipping, passing, judged_data, judged_header, j
 use Rattle.feeding.specs.Feed.{collected, fills, took, is_refused, step1, feed_bytes}
 use Rattle.feeding.proofs.Soundness.{step-sound}
 
--- a format where there is one; a refusal, whichever it is, has nothing to keep
+-- a format where there is one, and a refusal of 32 bits
 abbrev pub TypedPhase : Phase → Type 0
 TypedPhase FileHeader = Unit {0}
 TypedPhase FirstHeader = Unit {0}
@@ -38,7 +38,7 @@ TypedPhase (Skipping f d left) = Typed f
 TypedPhase (Edit f size) = Typed f
 TypedPhase (OpenData f start) = Typed f
 TypedPhase (ClosedData f chunk left) = Typed f
-TypedPhase (Refused reason) = Unit {0}
+TypedPhase (Refused number) = number < 2 ^ 32
 
 pub record TypedFeeder (r : Feeder) : Type 0 where
   pub long : length r.held ≡ 32
@@ -69,26 +69,26 @@ passing-typed : (f : AudioFormat) (c : DataChunk) (n : ℕ) → Typed f → Type
 passing-typed f c n t = either TypedPhase (eqb n 0) (λ _. t) (λ _. t)
 
 data-typed : (f : AudioFormat) (d : Option DataChunk) (size : ℕ) → Typed f → TypedPhase (judged_data f d size)
-data-typed f None size t = either TypedPhase (is_bad_data_size size) (λ _. tt) (λ _. t)
-data-typed f (Some chunk) size t = tt
+data-typed f None size t = either TypedPhase (is_bad_data_size size) (λ _. omega arith) (λ _. t)
+data-typed f (Some chunk) size t = omega arith
 
 -- what a whole piece of bytes leads to
 judged-typed : (h : List ℕ) (t : ℕ) (phase : Phase) → Bytes h → TypedPhase phase → TypedPhase (judged h t phase)
 unfolding judged judged_header
 judged-typed h t FileHeader b p =
-    either TypedPhase (not (stands_at h 0 'caff')) (λ _. tt)
-    (λ _. either TypedPhase (not (stands_at h 4 version)) (λ _. tt) (λ _. tt))
-judged-typed h t FirstHeader b p = either TypedPhase (not (stands_at h 0 'desc' && eqb (size_at h 0) desc_size)) (λ _. tt) (λ _. tt)
-judged-typed h t Desc b p = either TypedPhase (bad_rate_at h 0) (λ _. tt) (λ e. desc-typed h 0 b e)
+    either TypedPhase (not (stands_at h 0 'caff')) (λ _. omega arith)
+    (λ _. either TypedPhase (not (stands_at h 4 version)) (λ _. omega arith) (λ _. tt))
+judged-typed h t FirstHeader b p = either TypedPhase (not (stands_at h 0 'desc' && eqb (size_at h 0) desc_size)) (λ _. omega arith) (λ _. tt)
+judged-typed h t Desc b p = either TypedPhase (bad_rate_at h 0) (λ _. omega arith) (λ e. desc-typed h 0 b e)
 judged-typed h t (Header f d) b p =
-    either TypedPhase (stands_at h 0 'desc') (λ _. tt)
+    either TypedPhase (stands_at h 0 'desc') (λ _. omega arith)
     (λ _. either TypedPhase (stands_at h 0 'data') (λ _. data-typed f d (size_at h 0) p)
-    (λ _. either TypedPhase (leb negative (size_at h 0)) (λ _. tt) (λ _. skipping-typed f d (size_at h 0) p)))
+    (λ _. either TypedPhase (leb negative (size_at h 0)) (λ _. omega arith) (λ _. skipping-typed f d (size_at h 0) p)))
 judged-typed h t (Skipping f d left) b p = p
 judged-typed h t (Edit f size) b p = either TypedPhase (is_open_size size) (λ _. p) (λ _. passing-typed f (record { size = size; start = t }) (size - 4) p)
 judged-typed h t (OpenData f start) b p = p
 judged-typed h t (ClosedData f chunk left) b p = p
-judged-typed h t (Refused reason) b p = p
+judged-typed h t (Refused number) b p = p
 
 fills-typed : (r : Feeder) (b : ℕ) → b < 256 → r.count < 32 → TypedFeeder r → TypedFeeder (fills r (b ∷ []))
 unfolding collected
@@ -114,13 +114,13 @@ module _ (h : List ℕ) (n t k b : ℕ) (l : b < 256) where
   took-typed (Edit f size) few a = fills-typed (at (Edit f size)) b l (omega arith) a
   took-typed (OpenData f start) few a = record { long = a.long; bytes = a.bytes; phase = a.phase }
   took-typed (ClosedData f chunk m) few a = record { long = a.long; bytes = a.bytes; phase = passing-typed f chunk (m - 1) a.phase }
-  took-typed (Refused reason) few a = a
+  took-typed (Refused number) few a = a
 
 step_typed : (r : Feeder) (b : ℕ) → b < 256 → Sound r → TypedFeeder r → TypedFeeder (step1 r b)
 unfolding step1
 step_typed r b l s t =
     either TypedFeeder (is_refused r.phase) (λ _. t)
-    (λ _. either TypedFeeder (leb file_max r.total) (λ _. record { long = t.long; bytes = t.bytes; phase = tt })
+    (λ _. either TypedFeeder (leb file_max r.total) (λ _. record { long = t.long; bytes = t.bytes; phase = omega arith })
     (λ _. took-typed r.held r.count r.total r.chunks b l r.phase s.few t))
 
 pub bytes-typed : (bs : List ℕ) (r : Feeder) → Bytes bs → Sound r → TypedFeeder r → TypedFeeder (feed_bytes r bs)

@@ -32,7 +32,7 @@ format-then (Skipping f d left) middle rest = refl
 format-then (Edit f size) middle rest = refl
 format-then (OpenData f start) middle rest = refl
 format-then (ClosedData f chunk left) middle rest = refl
-format-then (Refused reason) middle rest = refl
+format-then (Refused number) middle rest = refl
 
 -- so the record's numbers are those of its parts
 pub feeder-is : (r : Feeder) (k n z s a b c d : ℕ) (f : List ℕ) → k ≡ phase_kind r.phase → f ≡ phase_format r.phase → n ≡ phase_number r.phase

@@ -1,13 +1,12 @@
 -- Document 02, T-01 and T-05: the feeding record as C keeps it between calls: an array of 18 numbers of 64 bits.
 use Rattle.std.specs.Prelude.{ℕ, cond, ◌&&◌, List, [], ◌∷◌, ◌++◌, length, take, drop, replicate, eqb, Option, Some, None}
 use Rattle.std.specs.Option.{option_map}
-use Rattle.answers.specs.Refused.{refusal_number, refusal_for}
 use Rattle.byte_order.specs.Big.{big_at, big_bytes}
 use Rattle.feeder.specs.declared.Phase.{Phase}
 use Rattle.feeder.specs.declared.Phase.TheVariants.{FileHeader, FirstHeader, Desc, Header, Skipping, Edit, OpenData, ClosedData, Refused}
 use Rattle.feeder.specs.declared.DataChunk.{DataChunk}
 use Rattle.feeder.specs.declared.Feeder.{Feeder}
-use Rattle.numbers.specs.Words.{at, all_words}
+use Rattle.numbers.specs.Words.{at, is_word, all_words}
 use Rattle.numbers.specs.FormatNumbers.{audio_numbers, audio_of}
 
 -- which phase it is. A header and a skipped body have one number before the data and one after them
@@ -28,7 +27,7 @@ phase_kind (Skipping f d left) = skipping_kind d
 phase_kind (Edit f size) = 5
 phase_kind (OpenData f start) = 6
 phase_kind (ClosedData f chunk left) = 10
-phase_kind (Refused reason) = 7
+phase_kind (Refused number) = 7
 
 -- the format that it holds; zeros where it holds none
 abbrev pub no_format : List ℕ
@@ -43,7 +42,7 @@ phase_format (Skipping f d left) = audio_numbers f
 phase_format (Edit f size) = audio_numbers f
 phase_format (OpenData f start) = audio_numbers f
 phase_format (ClosedData f chunk left) = audio_numbers f
-phase_format (Refused reason) = no_format
+phase_format (Refused number) = no_format
 
 -- the number beside the format: the bytes to come, or the refusal; 0 where there is none
 abbrev pub phase_number : Phase → ℕ
@@ -55,7 +54,7 @@ phase_number (Skipping f d left) = left
 phase_number (Edit f size) = 0
 phase_number (OpenData f start) = 0
 phase_number (ClosedData f chunk left) = left
-phase_number (Refused reason) = refusal_number reason
+phase_number (Refused number) = number
 
 -- the size field of a data chunk that ends before the file does, or may; 0 without one
 abbrev pub passed_size : Option DataChunk → ℕ
@@ -71,7 +70,7 @@ phase_size (Skipping f d left) = passed_size d
 phase_size (Edit f size) = size
 phase_size (OpenData f start) = 0
 phase_size (ClosedData f chunk left) = chunk.size
-phase_size (Refused reason) = 0
+phase_size (Refused number) = 0
 
 -- where the data start; 0 before they do
 abbrev pub passed_start : Option DataChunk → ℕ
@@ -87,7 +86,7 @@ phase_start (Skipping f d left) = passed_start d
 phase_start (Edit f size) = 0
 phase_start (OpenData f start) = start
 phase_start (ClosedData f chunk left) = chunk.start
-phase_start (Refused reason) = 0
+phase_start (Refused number) = 0
 
 -- places 0 to 7, 8 to 13, and 14 to 17: the 32 bytes of a piece, eight in a number
 unfoldable pub feeder_numbers : Feeder → List ℕ
@@ -103,7 +102,7 @@ feeder_places = 18
 abbrev pub chunk_of : List ℕ → DataChunk
 chunk_of ns = record { size = at ns 9; start = at ns 10 }
 
--- and the phase, where there is one of its number, and for a refused one a refusal of the number beside it
+-- and the phase, where there is one of its number, and a refusal's number fits 32 bits
 unfoldable pub phase_of : List ℕ → Option Phase
 phase_of ns =
     cond (eqb (at ns 0) 0) (Some FileHeader)
@@ -113,7 +112,7 @@ phase_of ns =
     (cond (eqb (at ns 0) 4) (Some (Skipping (audio_of ns) None (at ns 8)))
     (cond (eqb (at ns 0) 5) (Some (Edit (audio_of ns) (at ns 9)))
     (cond (eqb (at ns 0) 6) (Some (OpenData (audio_of ns) (at ns 10)))
-    (cond (eqb (at ns 0) 7) (option_map Refused (refusal_for (at ns 8)))
+    (cond (eqb (at ns 0) 7) (cond (is_word (at ns 8)) (Some (Refused (at ns 8))) None)
     (cond (eqb (at ns 0) 8) (Some (Header (audio_of ns) (Some (chunk_of ns))))
     (cond (eqb (at ns 0) 9) (Some (Skipping (audio_of ns) (Some (chunk_of ns)) (at ns 8)))
     (cond (eqb (at ns 0) 10) (Some (ClosedData (audio_of ns) (chunk_of ns) (at ns 8)))

@@ -1,7 +1,5 @@
 // The feeding record read from the array that a caller keeps.
-ghost use Rattle.std.specs.Prelude.{◌≡◌, true, length, take, drop, eqb, OnSome};
-ghost use Rattle.std.specs.List.{find};
-ghost use Rattle.answers.specs.Refused.{refusal_number, refusal_for};
+ghost use Rattle.std.specs.Prelude.{◌≡◌, true, length, take, drop, OnSome};
 ghost use Rattle.numbers.specs.Words.{all_words};
 ghost use Rattle.feeder_numbers.specs.FeederNumbers.{feeder_places, phase_of, held_in, feeder_of};
 
@@ -12,29 +10,13 @@ use crate::phases::{
 use crate::places::{
     CHUNKS, COUNT, FEEDER, HELD, HELD_8, HELD_16, HELD_24, NUMBER, PHASE, SIZE, START, TOTAL,
 };
-use answers::{Refusal, all_refusals};
 use byte_order::put::put;
 use feeder::{DataChunk, Feeder, Phase};
 use numbers::format_from_numbers::{AFTER_FORMAT, FORMAT_ID, audio_of};
-use numbers::words::words;
+use numbers::words::{WORDS, words};
 
-fn refusal_among(refusals: &[Refusal], number: u64) -> Option<Refusal>
-    ensures { result ≡ find (λ r. eqb (refusal_number r) number) refusals.now }
-{
-    refusals
-        .iter()
-        .copied()
-        .find(|refusal| u64::from(refusal.number()) == number)
-}
-
-// The refusal that has the number. It may be any: whether bytes give it is for `is_sound` to say.
-fn refusal_for(number: u64) -> Option<Refusal>
-    ensures { result ≡ refusal_for number }
-{
-    refusal_among(&all_refusals(), number)
-}
-
-// The phase that the array tells, where there is one of its number.
+// The phase that the array tells, where there is one of its number. A refusal's number fits 32 bits; whether calls give it is for
+// `is_sound` to say.
 #[tactic(auto, using(crate::proofs::Feeders::feeder_audio), unfolding(crate::specs::FeederNumbers::phase_of))]
 fn phase_of(numbers: &[u64]) -> Option<Phase>
     requires places { length numbers.now ≡ feeder_places }
@@ -58,7 +40,7 @@ fn phase_of(numbers: &[u64]) -> Option<Phase>
         EDIT => Phase::Edit(format, numbers[SIZE]),
         OPEN_DATA => Phase::OpenData(format, chunk.start),
         CLOSED_DATA => Phase::ClosedData(format, chunk, left),
-        REFUSED => Phase::Refused(refusal_for(numbers[NUMBER])?),
+        REFUSED if numbers[NUMBER] < WORDS => Phase::Refused(numbers[NUMBER] as u32),
         _ => return None,
     };
     Some(phase)

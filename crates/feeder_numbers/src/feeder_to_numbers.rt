@@ -47,7 +47,7 @@ fn phase_number(phase: Phase) -> u64
 {
     match phase {
         Phase::Skipping(_, _, left) | Phase::ClosedData(_, _, left) => left as u64,
-        Phase::Refused(reason) => u64::from(reason.number()),
+        Phase::Refused(number) => u64::from(number),
         _ => 0,
     }
 }

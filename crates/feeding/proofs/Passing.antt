@@ -1,6 +1,6 @@
 -- Bytes that may be passed over: feeding any so many counts them, and nothing else.
 use Rattle.std.proofs.Common.{Option}
-use mathlib.Core.Path.{◌≡◌, refl, ◌∙◌, ap}
+use mathlib.Core.Path.{◌≡◌, refl, sym, ◌∙◌, ap}
 use mathlib.Core.Bool.{true, false}
 use mathlib.Core.List.{List, [], ◌∷◌}
 use Prim.Native.Nat.{ℕ, ◌+◌, ◌-◌, ◌≤◌, min}
@@ -19,7 +19,7 @@ use Rattle.feeder.proofs.Facts.{Facts, Sound, sound-facts}
 use Rattle.feeding.specs.Feed.{passed_as, took, number_at, feed_bytes}
 use Rattle.feeding.specs.Turns.{wanted, room_for}
 use Rattle.feeding.specs.Pass.{may_pass, passable, pass}
-use Rattle.feeding.proofs.Call.{feed-is, feed-not}
+use Rattle.feeding.proofs.Call.{feed-is, feed-not, still-sound}
 use Rattle.feeding.proofs.Turns.{from, many-skip, many-closed, many-open}
 
 -- what may be passed over is wanted by the phase, and has room in a file
@@ -32,7 +32,7 @@ may-wanted n m room (Skipping f d left) l = (omega arith, omega arith)
 may-wanted n m room (Edit f size) l = (omega arith, omega arith)
 may-wanted n m room (OpenData f start) l = (omega arith, l)
 may-wanted n m room (ClosedData f chunk left) l = (omega arith, omega arith)
-may-wanted n m room (Refused reason) l = (omega arith, omega arith)
+may-wanted n m room (Refused number) l = (omega arith, omega arith)
 
 -- no bytes
 none : (r : Feeder) (bs : List ℕ) → length bs ≤ 0 → feed_bytes r bs ≡ r
@@ -70,7 +70,7 @@ by-phase (Skipping f d m) h n t k bs a g l = skip-passed f d m h n t k bs a.some
 by-phase (Edit f size) h n t k bs a g l = none (from (Edit f size) h n t k) bs l
 by-phase (OpenData f start) h n t k bs a g l = many-open f start bs h n t k (omega arith)
 by-phase (ClosedData f chunk m) h n t k bs a g l = closed-passed f chunk m h n t k bs a.some (omega arith) (omega arith)
-by-phase (Refused reason) h n t k bs a g l = none (from (Refused reason) h n t k) bs l
+by-phase (Refused number) h n t k bs a g l = none (from (Refused number) h n t k) bs l
 
 pub bytes-passed : (r : Feeder) (bs : List ℕ) → Sound r → length bs ≤ may_pass (room_for r) r.phase → feed_bytes r bs ≡ passed_as r.phase r (length bs)
 bytes-passed r bs a l = by-phase r.phase r.held r.count r.total r.chunks bs a.facts a.total l
@@ -96,6 +96,11 @@ pass-is r n e =
     length-replicate (min n (passable r)) 0 ∙ ap (min n) (passable-is r e) in
     feed-is r (zeros (min n (passable r))) e
     ∙ ap (λ (x : Feeder). record { number = number_at x.phase; feeder = x }) (fed-as r (zeros (min n (passable r))) n e l)
+
+pub passes-sound : (r : Feeder) (n : ℕ) → sound r ≡ true → sound (passes r n) ≡ true
+passes-sound r n e =
+    let m : ℕ = min n (may_pass (room_for r) r.phase) in
+    ap sound (sym (fed-as r (zeros m) n e (length-replicate m 0))) ∙ still-sound r (zeros m) e
 
 pub pass-not : (r : Feeder) (n : ℕ) → sound r ≡ false → pass r n ≡ record { number = bad_writer; feeder = r }
 unfolding pass

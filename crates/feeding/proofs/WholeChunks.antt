@@ -198,7 +198,7 @@ module _ (s : List ℕ) where
   phase-fed (Edit f size) e = absurd (true≢false (sym e))
   phase-fed (OpenData f start) e = absurd (true≢false (sym e))
   phase-fed (ClosedData f chunk m) e = absurd (true≢false (sym e))
-  phase-fed (Refused reason) e = absurd (true≢false (sym e))
+  phase-fed (Refused number) e = absurd (true≢false (sym e))
 
   -- some of them, one after the other
   pub record Walking (w : Walk) : Type 0 where

@@ -41,7 +41,7 @@ is_header (Skipping f d left) = false
 is_header (Edit f size) = false
 is_header (OpenData f start) = false
 is_header (ClosedData f c left) = false
-is_header (Refused reason) = false
+is_header (Refused number) = false
 
 -- a record after some of the next bytes, but not all of them; its total tells after how many
 pub record Past (r : Feeder) (s : List ℕ) (next : Feeder) : Type 0 where

@@ -19,7 +19,7 @@ may_pass room (Skipping f d left) = min left room
 may_pass room (Edit f size) = 0
 may_pass room (OpenData f start) = room
 may_pass room (ClosedData f c left) = min left room
-may_pass room (Refused reason) = 0
+may_pass room (Refused number) = 0
 
 -- how many of the next bytes may be passed over; of an unsound record none
 unfoldable pub passable : Feeder → ℕ

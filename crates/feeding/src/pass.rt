@@ -46,7 +46,7 @@ pub fn pass(r: Feeder, n: usize) -> Fed
     let room = FILE_MAX - r.total;
     let feeder = passed(r, n.min(may_pass(room, r.phase)));
     Fed {
-        outcome: outcome_at(feeder.phase),
+        outcome: outcome_at(feeder),
         feeder,
     }
 }

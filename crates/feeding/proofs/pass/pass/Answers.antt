@@ -1,11 +1,12 @@
 use mathlib.Core.Path.{◌≡◌, sym, ◌∙◌, ap}
+use Rattle.feeder.specs.Record.{sound}
 use Rattle.feeder.specs.declared.Feeder.{Feeder}
 use Rattle.feeder.proofs.Facts.{sound-facts}
 use Prim.Native.Nat.{min}
 use native.Mathlib.Omega.{arith}
 use Rattle.feeding.specs.Feed.{Fed, passed_as, number_at}
 use Rattle.feeding.specs.Turns.{room_for}
-use Rattle.feeding.proofs.Passing.{may-wanted, passes, pass-is, pass-not}
+use Rattle.feeding.proofs.Passing.{may-wanted, passes, passes-sound, pass-is, pass-not}
 use Rattle.feeding.proofs.pass.pass.Goals as goal
 
 pub returns-then-not-is_sound : goal.returns-then-not-is_sound
@@ -22,6 +23,12 @@ passed-feeder-requires c =
     let t = (sound-facts r (sym c.if-not-is_sound.ensures)).total in
     let w = may-wanted r.count c.min.result (room_for r) r.phase (omega (arith, c.min.ensures, c.may_pass.ensures)) in
     (w.0, omega (arith, t, w.1))
+
+pub outcome_at-requires : goal.outcome_at-requires
+outcome_at-requires c =
+    let a = c.args in
+    let p : c.passed-feeder.result ≡ passes a.r a.n = c.passed-feeder.ensures ∙ ap (passed_as a.r.phase a.r) (c.min.ensures ∙ ap (min a.n) c.may_pass.ensures) in
+    ap sound p ∙ passes-sound a.r a.n (sym c.if-not-is_sound.ensures)
 
 pub returns : goal.returns
 returns c =
