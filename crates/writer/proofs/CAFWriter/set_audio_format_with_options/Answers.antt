@@ -21,4 +21,4 @@ returns-in-Ok c =
     let a = c.args in
     let f = pcm_format a.sample_rate a.channels a.bits_per_channel a.data_type a.endianness in
     let is = IfOk-at_ok (λ (x : AudioFormat). x ≡ f) c.in-Ok.is c.formatted-formatted.ensures.format in
-    done-answer a.self (setting_number a.self (format_number a.sample_rate a.channels a.bits_per_channel a.endianness)) (stores 0 [] (with_format a.self f a.endianness)) c.formatted-formatted.result c.formatted-formatted.ensures.number c.in-Ok.format c.in-Ok.is (c.with_format.ensures ∙ ap (λ (x : AudioFormat). with_format a.self x a.endianness) is) refl
+    done-answer a.self (setting_number a.self (format_number a.sample_rate a.channels a.bits_per_channel a.endianness)) (stores 0 [] (with_format a.self f a.endianness)) c.formatted-formatted.result c.formatted-formatted.ensures.number c.in-Ok.format c.in-Ok.is (ap (λ (x : AudioFormat). with_format a.self x a.endianness) is) refl
