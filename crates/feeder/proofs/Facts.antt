@@ -7,7 +7,7 @@ use Prim.Native.Nat.{ℕ, ◌+◌, ◌-◌, ◌*◌, ◌<◌, ◌≤◌}
 use native.Mathlib.Omega.{arith}
 use lib.Dec.{ltb, leb, eqb}
 use borrow.Author.Tests.{eqb-true, leb-true, ltb-true, not-true, eq-eqb, le-leb, lt-ltb}
-use Rattle.answers.specs.Numbers.{not_caf, bad_size, bad_rate, bad_version, bad_desc, second_data, too_long, file_max}
+use Rattle.answers.specs.Numbers.{too_long, file_max}
 use Rattle.answers.specs.Refused.{refusal_number, refusal_for}
 use Rattle.answers.specs.declared.refusal.Refusal.{Refusal}
 use Rattle.format.specs.declared.AudioFormat.{AudioFormat}
@@ -214,26 +214,21 @@ sound-tests r a =
     join (join (le-leb r.total file_max a.total) (le-leb r.count (piece_size r.phase - 1) a.few))
     (tests r.count r.total r.chunks r.phase a.facts)
 
--- what holds by each of two tests holds by one of them
-by-one : {T : Type 0} (a b : Bool) → (a ≡ true → T) → (b ≡ true → T) → a || b ≡ true → T
-by-one true b f g e = f refl
-by-one false b f g e = g e
+-- what each of two tests tells is told where one of them holds
+by-one : {T : Type 0} {a b : Bool} → (a ≡ true → T) → (b ≡ true → T) → a || b ≡ true → T
+by-one {a = true} f g e = f refl
+by-one {a = false} f g e = g e
+
+-- a number that a refusal has
+abbrev Told : Refusal → ℕ → Type 0
+Told other number = refusal_number (unwrap_or (refusal_for number) other) ≡ number
+
+told-same : (number : ℕ) (other : Refusal) (n : ℕ) → Told other n → eqb number n ≡ true → Told other number
+told-same number other n t e = rw (eqb-true number n e) t
 
 -- the number of a refused phase is that of a refusal, where the record is sound
-pub told : (number : ℕ) (other : Refusal) → eqb number too_long || is_by_bytes number ≡ true → refusal_number (unwrap_or (refusal_for number) other) ≡ number
-told number other e =
-    let by : (n : ℕ) → refusal_number (unwrap_or (refusal_for n) other) ≡ n → eqb number n ≡ true → refusal_number (unwrap_or (refusal_for number) other) ≡ number =
-    λ n x t. rw (eqb-true number n t) x in
-    by-one (eqb number too_long) (is_by_bytes number) (by too_long refl)
-    (by-one (eqb number not_caf || eqb number bad_version || eqb number bad_desc || eqb number bad_rate || eqb number bad_size) (eqb number second_data)
-    (by-one (eqb number not_caf || eqb number bad_version || eqb number bad_desc || eqb number bad_rate) (eqb number bad_size)
-    (by-one (eqb number not_caf || eqb number bad_version || eqb number bad_desc) (eqb number bad_rate)
-    (by-one (eqb number not_caf || eqb number bad_version) (eqb number bad_desc)
-    (by-one (eqb number not_caf) (eqb number bad_version) (by not_caf refl) (by bad_version refl))
-    (by bad_desc refl))
-    (by bad_rate refl))
-    (by bad_size refl))
-    (by second_data refl)) e
+pub told : (number : ℕ) (other : Refusal) → eqb number too_long || is_by_bytes number ≡ true → Told other number
+told number other = search (by-one, told-same) depth 16 fits 4000
 
 -- a record that is fed too much
 pub chunks-few : (n t k : ℕ) (phase : Phase) → Facts n t k phase → 12 * k ≤ t
