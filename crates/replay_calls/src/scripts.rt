@@ -10,8 +10,8 @@ const ROOM: usize = 2048;
 // An answer is number, count, data count, finished, file length.
 const ANSWER: usize = 14;
 
-fn same_answer(s: &[u8], p: usize, done: Done) -> bool {
-    let stats = done.writer.stats();
+fn same_answer(s: &[u8], p: usize, done: Done, writer: &CAFWriter) -> bool {
+    let stats = writer.stats();
     byte(s, p) == done.number
         && count(s, p.saturating_add(1)) == done.count
         && count(s, p.saturating_add(5)) == stats.data_count
@@ -34,13 +34,12 @@ pub(crate) fn same_script(body: &[u8]) -> bool {
     let mut file_len = 0;
     let mut p = 4;
     for _ in 0..calls {
-        let done = call(body, p, writer, file_len, &mut buf);
+        let done = call(body, p, &mut writer, file_len, &mut buf);
         p = end_of(body, p);
-        if !same_answer(body, p, done) {
+        if !same_answer(body, p, done, &writer) {
             return false;
         }
         p = p.saturating_add(ANSWER);
-        writer = done.writer;
         file_len = done.file_len;
     }
     same_file(body, p, &buf, file_len)
