@@ -1,5 +1,3 @@
-use mathlib.Core.Path.{◌∙◌}
-use borrow.Author.Rules.{rules}
 use Rattle.answers.specs.declared.refusal.Refusal.TheVariants.{BadWriter}
 use Rattle.feeder.proofs.Facts.{in-refused, told}
 use Rattle.feeding.proofs.feed.outcome_at.Goals as goal
