@@ -29,6 +29,6 @@ returns-in-Ok c =
     let n = setting_number a.self (first (format_number a.sample_rate a.channels a.bits_per_channel BigEndian) (labels_number ls a.channels)) in
     let f = pcm_format a.sample_rate a.channels a.bits_per_channel SignedInteger BigEndian in
     let is = IfOk-at_ok (λ (x : AudioFormat). x ≡ f) c.in-Ok.is c.configured-configured.ensures.format in
-    let changed = c.with_format-formatted.ensures ∙ ap (λ (x : AudioFormat). with_format a.self x BigEndian) is in
+    let changed = c.with_format-self.ensures ∙ ap (λ (x : AudioFormat). with_format a.self x BigEndian) is in
     done-answer a.self n (stores 0 [] (with_labels (with_format a.self f BigEndian) ls a.channels)) c.configured-configured.result c.configured-configured.ensures.number c.in-Ok.format c.in-Ok.is
-    (c.with_labels.ensures ∙ ap (λ (x : CAFWriter). with_labels x ls a.channels) changed) refl
+    (c.with_labels-self.ensures ∙ ap (λ (x : CAFWriter). with_labels x ls a.channels) changed) refl

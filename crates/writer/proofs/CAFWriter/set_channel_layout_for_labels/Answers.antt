@@ -17,4 +17,4 @@ unfolding labels_call
 returns-in-Ok c =
     let a = c.args in
     let ls = a.labels.now in
-    done-answer a.self (setting_number a.self (labels_number ls a.channels)) (stores 0 [] (with_labels a.self ls a.channels)) c.may_be_labelled.result c.may_be_labelled.ensures.number c.in-Ok.field-0 c.in-Ok.is c.with_labels.ensures refl
+    done-answer a.self (setting_number a.self (labels_number ls a.channels)) (stores 0 [] (with_labels a.self ls a.channels)) c.may_be_labelled.result c.may_be_labelled.ensures.number c.in-Ok.field-0 c.in-Ok.is c.with_labels-self.ensures refl

@@ -17,4 +17,4 @@ pub returns-in-Ok : goal.returns-in-Ok
 unfolding tag_call
 returns-in-Ok c =
     let a = c.args in
-    done-answer a.self (setting_number a.self (tag_number a.tag)) (stores 0 [] (with_layout a.self (Tagged a.tag) [])) c.may_be_tagged.result c.may_be_tagged.ensures c.in-Ok.field-0 c.in-Ok.is c.with_layout.ensures refl
+    done-answer a.self (setting_number a.self (tag_number a.tag)) (stores 0 [] (with_layout a.self (Tagged a.tag) [])) c.may_be_tagged.result c.may_be_tagged.ensures c.in-Ok.field-0 c.in-Ok.is c.with_layout-self.ensures refl
